@@ -4,12 +4,12 @@ use Rattle.std.proofs.lemmas.Bool.{true≢false, false≢true, cases_Bool, eq-eq
 use Rattle.exec_outcomes.specs.declared.outcome.{OpResult.OpResult, Outcome.Outcome}
 use Rattle.exec_outcomes.specs.Outcomes.{refuses_hint}
 use Rattle.exec_machine.specs.{declared.{config.Configuration.Configuration, event.Event.Event, state.{Forwarding.TheVariants.{Applied, Sent}, MailMessage.MailMessage, Next.Next, Request.Request, Sleeper.Sleeper, Waiting.Waiting}}}
-use Rattle.exec_machine.specs.{After.{common_after, polled}, Allowed.Allowed, Choice.{Choice, Payer, Choice.{Plain, Passes, Pays, Posts}}, Closing.{after_clear, after_next, ends_by_clear, gone_with, with_cleared}, Deadlines.{expired, outcome_at_expiry}, Mail.{after_message, after_post, after_sending, is_left_out, is_root_message, posted}, Same.{is_none, same_end}, Requests.{after_reap, staged, common_after_refusal, dropped, flown, granted, judged_of, reaped}, Tasks.{after_over, pended_phase, after_payment, after_pend, after_wake, after_word, removed, requests_after_drops, sleepers_after_waking_up}, Tests.{is_applied, is_queued, is_resolved, set_seat, set_task}, World.{Common, Own as Books, no_request, no_sleeper, request_of, seat_of, sleeper_of, task_of}}
+use Rattle.exec_machine.specs.{After.{common_after, polled}, Allowed.Allowed, Choice.{Choice, Payer, Choice.{Plain, Passes, Pays, Posts}}, Closing.{after_clear, after_next, ends_by_clear, gone_with, with_cleared}, Deadlines.{expired, outcome_at_expiry}, Mail.{after_message, after_post, after_sending, is_left_out, is_root_message, posted}, Same.{is_none, same_end}, Requests.{after_reap, staged, common_after_refusal, dropped, flown, granted, judged_of, reaped}, Tasks.{after_over, pended_phase, after_payment, after_pend, after_wake, after_word, removed, requests_after_drops, sleepers_after_waking_up}, Tests.{is_applied, is_landed_with, is_queued, set_seat, set_task}, World.{Common, Own as Books, no_request, no_sleeper, request_of, seat_of, sleeper_of, task_of}}
 use Rattle.exec_machine.specs.declared.event.Event.TheVariants as event
 use Rattle.exec_machine.specs.declared.state.MailMessage.TheVariants as message
 use Rattle.exec_machine.specs.declared.state.Waiting.TheVariants as waiting
-use Rattle.exec_books.proofs.CountedTurns.{Naps, Turns, drop_turns, each_map, each_set, enrol_turns, expire_turns, fired_naps, flown_turns, goes_on, grant_turns, marked, moves_flight, napped, naps_then, noted, reap_turns, removed_naps, same, turned, turns_then}
-use Rattle.exec_books.proofs.MinePhases.{queued_open, landed_open}
+use Rattle.exec_books.proofs.CountedTurns.{IsPast, Naps, Turns, drop_turns, each_map, each_set, enrol_turns, expire_turns, fired_naps, flown_turns, goes_on, grant_turns, grants, marked, moves_flight, napped, naps_then, noted, reap_turns, removed_naps, same, turned, turns_then}
+use Rattle.exec_books.proofs.MinePhases.{queued_open}
 
 -- OPEN PHASES
 
@@ -19,6 +19,17 @@ unsent_applied is = absurd (true≢false (ap is_applied is))
 -- what is over by its deadline was queued
 expires_queued : (x : Request) (outcome : Option Outcome) → same_end outcome (outcome_at_expiry x) ≡ true → is_none outcome ≡ false → is_queued x.phase ≡ true
 expires_queued = grind (arith, false≢true)
+
+queued_past : (x : Request) → is_queued x.phase ≡ true → IsPast x
+queued_past = grind arith
+
+pub landed_past : (n : OpResult) (x : Request) → is_landed_with n x.phase ≡ true → IsPast x
+landed_past = grind arith
+
+-- a grant without an outcome gives the permit
+given : (r : ℕ) (outcome : Option Outcome) → is_none outcome ≡ true → grants r (event.Grant r outcome) ≡ true
+given r None none = eq-eqb r r refl
+given r (Some x) none = absurd (false≢true none)
 
 -- COMMON PARTS
 
@@ -96,7 +107,7 @@ module _ (e : Event) (s : Common) (i : ℕ) where
 
   applies : (m : MailMessage) (me : Books) → Leaves e s (after_message me s m)
   applies message.Root me = beside refl refl
-  applies (message.ForwardRequest r) me = by_request r _ (marked (record { worker = refl; released = refl; kind = refl; deadline = refl; sent = λ h. unsent_applied h }) refl refl)
+  applies (message.ForwardRequest r) me = by_request r _ (marked (record { worker = refl; released = refl; kind = refl; target = refl; deadline = refl; sent = λ h. unsent_applied h }) refl refl)
   applies (message.ForwardTimer z) me = by_sleeper z _ (noted refl refl refl (λ h. unsent_applied h))
   applies (message.CancelRequest r) me = by_request r (dropped (request_of s r)) (drop_turns e r (request_of s r))
   applies (message.CancelTimer z) me = by_sleeper z (removed (sleeper_of s z)) (removed_naps e z (sleeper_of s z))
@@ -107,7 +118,7 @@ module _ (e : Event) (s : Common) (i : ℕ) where
   told_sleepers : (r : ℕ) (n : OpResult) → (common_after_refusal s (request_of s r) n).sleepers ≡ s.sleepers
   told_sleepers r n = elim (cases_Bool (refuses_hint (judged_of (request_of s r) n))) [ inl refused ↦ rw refused refl | inr other ↦ rw other refl ]
 
-  reaps : (r : ℕ) (n : OpResult) (outcome : Option Outcome) → moves_flight e ≡ true → is_resolved (request_of s r).phase ≡ false → Leaves e s (after_reap s i r n outcome)
+  reaps : (r : ℕ) (n : OpResult) (outcome : Option Outcome) → moves_flight e ≡ true → IsPast (request_of s r) → Leaves e s (after_reap s i r n outcome)
   reaps r n outcome moves before =
       record {
         requests = set_turns e s.requests r (reaped n outcome (request_of s r)) (reap_turns e r (request_of s r) n outcome moves before);
@@ -126,7 +137,7 @@ sends : (s : Common) (to : ℕ) (polls : Option ℕ) (m : MailMessage) → Leave
 sends s to None m = leaves
 sends s to (Some t) message.Root = beside refl refl
 sends s to (Some t) (message.ForwardRequest r) =
-    leaves_then (by_request r _ (record { worker = refl; released = λ calm. refl; flying = λ calm. refl; timed = λ was. was; undated = λ was. was; let_go = λ was. was; sent = λ h. inr (eq-eqb r r refl) })) (beside refl refl)
+    leaves_then (by_request r _ (record { worker = refl; released = λ calm. refl; flying = λ calm. refl; timed = λ was. was; undated = λ was. was; let_go = λ was. was; sent = λ h. inr (eq-eqb r r refl); kind = refl; target = refl; gated = λ h. h; past = λ h. inl h })) (beside refl refl)
 sends s to (Some t) (message.ForwardTimer z) = by_sleeper z _ (record { worker = refl; asleep = λ j was. was; sent = λ h. inr (eq-eqb z z refl) })
 sends s to (Some t) (message.CancelRequest r) = beside refl refl
 sends s to (Some t) (message.CancelTimer z) = leaves
@@ -151,21 +162,21 @@ module _ (c : Configuration) (me : Books) (s : Common) (i : ℕ) where
   leaves_each (event.Clear t) choice h calm = clears (event.Clear t) s i t
   leaves_each (event.Admit r kind outcome) choice h calm = absurd (true≢false calm)
   leaves_each (event.Timer z until) choice h calm = absurd (true≢false calm)
-  leaves_each (event.Wait (Some r)) choice h calm = leaves_then (by_request r (record (request_of s r) { waiter = Some (polled me) }) (marked (same refl refl refl refl refl) refl refl)) (beside refl refl)
-  leaves_each (event.Got r outcome) choice h calm = leaves_then (by_request r (record (request_of s r) { observed = false }) (marked (same refl refl refl refl refl) refl refl)) (beside refl refl)
+  leaves_each (event.Wait (Some r)) choice h calm = leaves_then (by_request r (record (request_of s r) { waiter = Some (polled me) }) (marked (same refl refl refl refl refl refl) refl refl)) (beside refl refl)
+  leaves_each (event.Got r outcome) choice h calm = leaves_then (by_request r (record (request_of s r) { observed = false }) (marked (same refl refl refl refl refl refl) refl refl)) (beside refl refl)
   leaves_each (event.Drop r) choice h calm = leaves_then (by_request r (dropped (request_of s r)) (drop_turns (event.Drop r) r (request_of s r))) (beside refl refl)
   leaves_each (event.Wake t) choice h calm = wakes (event.Wake t) s i me t choice
   leaves_each (event.Grant r outcome) choice h calm =
       let x = request_of s r in
-      leaves_then (by_request r (granted outcome x) (grant_turns (event.Grant r outcome) r x outcome h.1.1.0)) (beside refl refl)
+      leaves_then (by_request r (granted outcome x) (grant_turns (event.Grant r outcome) r x outcome h.1.1.0 (given r outcome))) (beside refl refl)
   leaves_each (event.Enrol r outcome) choice h calm = grind (arith, by_request, enrol_turns, not-true)
   leaves_each (event.Stage r) choice h calm =
-      let x = request_of s r in by_request r (staged s x) (goes_on (same refl refl refl refl refl) (λ calm. absurd (true≢false calm)) (queued_open x.phase h.1.1.1.0) refl refl)
+      let x = request_of s r in by_request r (staged s x) (goes_on (same refl refl refl refl refl refl) (λ calm. absurd (true≢false calm)) (queued_open x.phase h.1.1.1.0) refl refl refl (inl (queued_past x h.1.1.1.0)))
   leaves_each event.Enter choice h calm =
       record { requests = λ k. each_map no_request (Turns event.Enter k) (flown i) (λ x. flown_turns event.Enter k x i) turned s.requests k; sleepers = λ z. napped }
-  leaves_each (event.Reap r n outcome) choice h calm = reaps (event.Reap r n outcome) s i r n outcome refl (landed_open n (request_of s r).phase h.1.1.1.0)
+  leaves_each (event.Reap r n outcome) choice h calm = reaps (event.Reap r n outcome) s i r n outcome refl (landed_past n (request_of s r) h.1.1.1.0)
   leaves_each (event.Expire r outcome) choice h calm = by_request r (expired outcome (request_of s r)) (expire_turns (event.Expire r outcome) r (request_of s r) outcome (expires_queued (request_of s r) outcome h.1.1.0))
-  leaves_each (event.Cancel r) choice h calm = by_request r (record (request_of s r) { cancel_staged = true }) (marked (same refl refl refl refl refl) refl refl)
+  leaves_each (event.Cancel r) choice h calm = by_request r (record (request_of s r) { cancel_staged = true }) (marked (same refl refl refl refl refl refl) refl refl)
   leaves_each (event.Orphan r outcome) choice h calm = by_request r (dropped (request_of s r)) (drop_turns (event.Orphan r outcome) r (request_of s r))
   leaves_each (event.Release r) choice h calm = grind (arith, by_request, true≢false, gone)
   leaves_each (event.Fire z) choice h calm = by_sleeper z (record (sleeper_of s z) { fired = true }) (fired_naps (event.Fire z) z (sleeper_of s z))

@@ -53,6 +53,11 @@ moves_flight (event.Stage r) = true
 moves_flight (event.Reap r n outcome) = true
 moves_flight _ = false
 
+-- it gives request k the permit of its open
+abbrev pub grants : ℕ → Event → Bool
+grants k (event.Grant r None) = k == r
+grants k _ = false
+
 abbrev pub FliesAlike : Event → Request → Request → Type 0
 FliesAlike e x y = moves_flight e ≡ false → is_in_flight y.phase ≡ is_in_flight x.phase
 
@@ -65,6 +70,10 @@ Undated r = is_of_file r.operation.kind ≡ true → (r.operation.deadline ≡ N
 abbrev pub LetGo : Request → Type 0
 LetGo r = r.released ≡ true → is_resolved r.phase ≡ true
 
+-- it is past the gate of its open, if it was at one, and not over
+abbrev pub IsPast : Request → Type 0
+IsPast r = (is_gated r.phase ≡ false) × (is_resolved r.phase ≡ false)
+
 -- event e leads from x to y at request k
 pub record Turns (e : Event) (k : ℕ) (x y : Request) : Type 0 where
   pub worker : y.worker ≡ x.worker
@@ -74,9 +83,13 @@ pub record Turns (e : Event) (k : ℕ) (x y : Request) : Type 0 where
   pub undated : Undated x → Undated y
   pub let_go : LetGo x → LetGo y
   pub sent : y.forwarding ≡ Sent → (x.forwarding ≡ Sent) ⊎ (tells k e ≡ true)
+  pub kind : y.operation.kind ≡ x.operation.kind
+  pub target : y.operation.target ≡ x.operation.target
+  pub gated : is_gated y.phase ≡ true → is_gated x.phase ≡ true
+  pub past : IsPast y → IsPast x ⊎ (grants k e ≡ true)
 
 pub turned : {e : Event} {k : ℕ} {x : Request} → Turns e k x x
-turned = record { worker = refl; released = λ calm. refl; flying = λ calm. refl; timed = λ was. was; undated = λ was. was; let_go = λ was. was; sent = λ h. inl h }
+turned = record { worker = refl; released = λ calm. refl; flying = λ calm. refl; timed = λ was. was; undated = λ was. was; let_go = λ was. was; sent = λ h. inl h; kind = refl; target = refl; gated = λ h. h; past = λ h. inl h }
 
 pub turns_then : {e : Event} {k : ℕ} {x y z : Request} → Turns e k x y → Turns e k y z → Turns e k x z
 turns_then a b =
@@ -88,6 +101,10 @@ turns_then a b =
       undated = λ was. b.undated (a.undated was);
       let_go = λ was. b.let_go (a.let_go was);
       sent = λ h. elim (b.sent h) [ inl before ↦ a.sent before | inr told ↦ inr told ];
+      kind = b.kind ∙ a.kind;
+      target = b.target ∙ a.target;
+      gated = λ h. a.gated (b.gated h);
+      past = λ h. elim (b.past h) [ inl before ↦ a.past before | inr granted ↦ inr granted ];
     }
 
 -- no change of a request changes these
@@ -95,11 +112,13 @@ pub record Same (x y : Request) : Type 0 where
   pub worker : y.worker ≡ x.worker
   pub released : y.released ≡ x.released
   pub kind : y.operation.kind ≡ x.operation.kind
+  pub target : y.operation.target ≡ x.operation.target
   pub deadline : y.operation.deadline ≡ x.operation.deadline
   pub sent : y.forwarding ≡ Sent → x.forwarding ≡ Sent
 
-pub same : {x y : Request} → y.worker ≡ x.worker → y.released ≡ x.released → y.operation.kind ≡ x.operation.kind → y.operation.deadline ≡ x.operation.deadline → y.forwarding ≡ x.forwarding → Same x y
-same worker released kind deadline forwarding = record { worker = worker; released = released; kind = kind; deadline = deadline; sent = λ h. sym forwarding ∙ h }
+pub same : {x y : Request} → y.worker ≡ x.worker → y.released ≡ x.released → y.operation.kind ≡ x.operation.kind → y.operation.target ≡ x.operation.target → y.operation.deadline ≡ x.operation.deadline → y.forwarding ≡ x.forwarding
+    → Same x y
+same worker released kind target deadline forwarding = record { worker = worker; released = released; kind = kind; target = target; deadline = deadline; sent = λ h. sym forwarding ∙ h }
 
 module _ {e : Event} {k : ℕ} {x y : Request} (a : Same x y) where
   -- its phase and its timer stay
@@ -112,10 +131,10 @@ module _ {e : Event} {k : ℕ} {x y : Request} (a : Same x y) where
 
   -- it is over
   pub finished : FliesAlike e x y → is_resolved y.phase ≡ true → y.timer ≡ None → Turns e k x y
-  finished = grind arith
+  finished = grind (arith, gated_open)
 
   -- it goes on
-  pub goes_on : FliesAlike e x y → is_resolved x.phase ≡ false → is_resolved y.phase ≡ false → y.timer ≡ x.timer → Turns e k x y
+  pub goes_on : FliesAlike e x y → is_resolved x.phase ≡ false → is_resolved y.phase ≡ false → y.timer ≡ x.timer → is_gated y.phase ≡ false → IsPast x ⊎ (grants k e ≡ true) → Turns e k x y
   goes_on = grind arith
 
   -- its deadline, which it asks for, goes on the wheel
@@ -136,7 +155,7 @@ module _ (e : Event) (k : ℕ) (r : Request) where
   pub drop_turns : Turns e k r (dropped r)
   drop_turns = dropped_turns (ends_by_drop r) (is_cancelled_by_drop r) refl refl
 
-  pub grant_turns : (outcome : Option Outcome) → is_gated r.phase ≡ true → Turns e k r (granted outcome r)
+  pub grant_turns : (outcome : Option Outcome) → is_gated r.phase ≡ true → (is_none outcome ≡ true → grants k e ≡ true) → Turns e k r (granted outcome r)
   grant_turns = grind (arith, goes_on, same, finished, gated_aground, gated_open)
 
   pub enrol_turns : (moment : ℕ) (outcome : Option Outcome) → is_queued r.phase ≡ true → is_none r.operation.deadline ≡ false → Turns e k r (enrolled moment outcome r)
@@ -145,7 +164,7 @@ module _ (e : Event) (k : ℕ) (r : Request) where
   pub expire_turns : (outcome : Option Outcome) → (is_none outcome ≡ false → is_queued r.phase ≡ true) → Turns e k r (expired outcome r)
   expire_turns = grind (arith, untimed, same, finished, aground)
 
-  pub reap_turns : (n : OpResult) (outcome : Option Outcome) → moves_flight e ≡ true → is_resolved r.phase ≡ false → Turns e k r (reaped n outcome r)
+  pub reap_turns : (n : OpResult) (outcome : Option Outcome) → moves_flight e ≡ true → IsPast r → Turns e k r (reaped n outcome r)
   reap_turns = grind (arith, goes_on, same, finished, true≢false)
 
   pub flown_turns : (i : ℕ) → Turns e k r (flown i r)

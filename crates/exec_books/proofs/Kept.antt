@@ -6,7 +6,7 @@ use Rattle.exec_books.specs.Listed.{is_in}
 use Rattle.exec_books.proofs.Listed.{no_listed}
 use Rattle.exec_rest.proofs.{FactsA.seated, First.of_equal}
 use Rattle.exec_books.specs.Booked.{FirstIsOwn, IsBooked}
-use Rattle.exec_books.proofs.{Own.own_by_mail, Standing.listed_then, Counted.{counted_then, flying_then, let_go_then, over_then, requests_then, sleepers_then, timed_then, undated_then, untold_then}, Mailed.{sent_then, sent_too_then}, Dues.dues_then, Others.booked_by_other}
+use Rattle.exec_books.proofs.{Own.own_by_mail, Standing.listed_then, Counted.{counted_then, flying_then, let_go_then, over_then, requests_then, sleepers_then, timed_then, undated_then, untold_then}, Lined.lined_up_then, Mailed.{sent_then, sent_too_then}, Dues.dues_then, Others.booked_by_other}
 
 -- THE FIRST STATE: no worker has anything, and each is awake
 
@@ -26,6 +26,7 @@ pub first_booked : (p : Plan) → IsBooked (begin p)
 first_booked p =
     record {
       listed = λ k. no_listed (own_of (begin p) 0) (seat_of (begin p).common 0).landed k;
+      lined_up = λ k. record { durable = λ gated. absurd (false≢true gated); waits = λ gated within. absurd (false≢true gated); has = λ durable gated over within. absurd (true≢false over) };
       timed = λ k over. refl;
       undated = λ k file. absurd (false≢true file);
       let_go = λ k released. refl;
@@ -52,6 +53,7 @@ booked_by_work c w i e choice owns first enabled may held =
     let own = own_by_mail c (own_of w i) s i e choice first may in
     record {
       listed = listed_then c w i e choice owns here may own held;
+      lined_up = lined_up_then c w i e choice owns here may own held;
       timed = timed_then c w i e choice owns here may own held;
       undated = undated_then c w i e choice owns here may own held;
       let_go = let_go_then c w i e choice owns here may own held;

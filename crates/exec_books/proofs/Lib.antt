@@ -21,7 +21,8 @@ pub mod Mailed
 pub mod DuesLists
 pub mod DuesAfter
 pub mod Dues
+pub mod Reach
+pub mod Lined
 pub mod OthersLeft
 pub mod Others
 pub mod Kept
-pub mod Reach

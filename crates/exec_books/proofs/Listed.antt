@@ -13,7 +13,7 @@ in_left : (k r : ℕ) (list : List ℕ) → (k == r) ≡ false → is_in k list 
 in_left k r [] other h = h
 in_left k r (q ∷ list) other h = grind (arith, or_cases, or_left, or_right, eqb-true, false≢true, eq-eqb, in_left k r list other)
 
-in_front : (k : ℕ) (list more : List ℕ) → is_in k list ≡ true → is_in k (list ++ more) ≡ true
+pub in_front : (k : ℕ) (list more : List ℕ) → is_in k list ≡ true → is_in k (list ++ more) ≡ true
 in_front k [] more h = absurd (false≢true h)
 in_front k (q ∷ list) more h = elim (or_cases (q == k) (is_in k list) h) [
   | inl this ↦ or_left (q == k) (is_in k (list ++ more)) this

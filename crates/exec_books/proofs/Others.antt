@@ -57,12 +57,12 @@ due_by_other = grind (arith, dues_kept, dues_then, spawn_dues, beside, wake_dues
 
 -- WHAT IT LEAVES
 
-nothing : (s late : Common) → late.requests ≡ s.requests → late.sleepers ≡ s.sleepers → late.seats ≡ s.seats → Leaves s late
+nothing : (s late : Common) → late.requests ≡ s.requests → late.sleepers ≡ s.sleepers → late.opens ≡ s.opens → late.seats ≡ s.seats → Leaves s late
 nothing = grind (arith, leaves_by_seats, same_seat)
 
-one_seat : (s late : Common) (q : ℕ) (y : Seat) → SameSeat (seat_of s q) y → late.requests ≡ s.requests → late.sleepers ≡ s.sleepers → late.seats ≡ set s.seats q y → Leaves s late
-one_seat s late q y same requests sleepers seats =
-    leaves_by_seats s late requests sleepers (ap length seats ∙ length-set s.seats q y)
+one_seat : (s late : Common) (q : ℕ) (y : Seat) → SameSeat (seat_of s q) y → late.requests ≡ s.requests → late.sleepers ≡ s.sleepers → late.opens ≡ s.opens → late.seats ≡ set s.seats q y → Leaves s late
+one_seat s late q y same requests sleepers opens seats =
+    leaves_by_seats s late requests sleepers opens (ap length seats ∙ length-set s.seats q y)
     (λ i. subst (λ xs. SameSeat (seat_of s i) (get_or xs i no_seat)) (sym seats) (set_like SameSeat same_seat s.seats q i y no_seat same))
 
 spawn_leaves : (s : Common) (n j : ℕ) (e : Event) → Leaves s (half_done (after_spawn_by_call s n e) j)
@@ -79,28 +79,28 @@ post_leaves : (s : Common) (to : ℕ) (m : MailMessage) (choice : Choice) (j : �
 post_leaves s to m choice j = by (is_root_message m && is_left_out choice)
   where
     by : (b : Bool) → Leaves s (half_done (if b then s else set_seat s to (posted m (seat_of s to))) j)
-    by true = nothing s (half_done s j) refl refl refl
-    by false = one_seat s (half_done (set_seat s to (posted m (seat_of s to))) j) to (posted m (seat_of s to)) (posted_seat m (seat_of s to)) refl refl refl
+    by true = nothing s (half_done s j) refl refl refl refl
+    by false = one_seat s (half_done (set_seat s to (posted m (seat_of s to))) j) to (posted m (seat_of s to)) (posted_seat m (seat_of s to)) refl refl refl refl
 
 wake_leaves : (s : Common) (t j : ℕ) (e : Event) (choice : Choice) → Leaves s (half_done (after_wake_by_call s t e choice) j)
-wake_leaves s t j (event.Wake other) choice = nothing s (half_done (after_wake_by_call s t (event.Wake other) choice) j) refl refl refl
+wake_leaves s t j (event.Wake other) choice = nothing s (half_done (after_wake_by_call s t (event.Wake other) choice) j) refl refl refl refl
 wake_leaves s t j (event.Send to m) choice = post_leaves s to m choice j
-wake_leaves s t j e choice = nothing s (half_done s j) refl refl refl
+wake_leaves s t j e choice = nothing s (half_done s j) refl refl refl refl
 
 rouse_leaves : (s : Common) (other : ℕ) → Leaves s (after_rouse s other)
-rouse_leaves s other = one_seat s (after_rouse s other) other (record (seat_of s other) { rest = rest.Awake }) (record { phase = refl; mailbox_closed = refl; inbox = λ m h. h; landed = λ k h. h }) refl refl refl
+rouse_leaves s other = one_seat s (after_rouse s other) other (record (seat_of s other) { rest = rest.Awake }) (record { phase = refl; mailbox_closed = refl; inbox = λ m h. h; landed = λ k h. h }) refl refl refl refl
 
 going_leaves : (s : Common) (j : ℕ) (e : Event) → Leaves s (after_going_on s j e)
 going_leaves s j (event.Rouse other) = rouse_leaves s other
-going_leaves s j event.Return = nothing s (after_going_on s j event.Return) refl refl refl
-going_leaves s j e = nothing s s refl refl refl
+going_leaves s j event.Return = nothing s (after_going_on s j event.Return) refl refl refl refl
+going_leaves s j e = nothing s s refl refl refl refl
 
 roused_seat : (clock : ℕ) (x : Seat) → SameSeat x (roused_at clock x)
 roused_seat clock x = record { phase = refl; mailbox_closed = refl; inbox = λ m h. h; landed = λ k h. h }
 
 clock_leaves : (s : Common) (d : ℕ) → Leaves s (after_clock s d)
 clock_leaves s d =
-    leaves_by_seats s (after_clock s d) refl refl (length-map s.seats (roused_at (s.clock + d)))
+    leaves_by_seats s (after_clock s d) refl refl refl (length-map s.seats (roused_at (s.clock + d)))
     (map_like SameSeat (roused_at (s.clock + d)) no_seat (same_seat no_seat) (roused_seat (s.clock + d)) s.seats)
 
 module _ (w : World) (held : IsBooked w) (r : ℕ) (n : OpResult) where
@@ -140,22 +140,23 @@ module _ (w : World) (held : IsBooked w) (r : ℕ) (n : OpResult) where
         counts = λ i. unreleased_set i s.requests r y (same_but flies);
         flights = λ i. flying_set i s.requests r y (same_but flies);
         sleepers = refl;
+        opens = refl;
       }
 
 -- THE BOOKS
 
 leaves : (w : World) (a : Action) (e : Event) (choice : Choice) → is_enabled w.common a ≡ true → IsBooked w → Leaves w.common (common_by w.common a e choice)
-leaves w (action.Work i) e choice may held = nothing w.common w.common refl refl refl
+leaves w (action.Work i) e choice may held = nothing w.common w.common refl refl refl refl
 leaves w (action.Spawn j k) e choice may held = spawn_leaves w.common k j e
 leaves w (action.Wake j t) e choice may held = wake_leaves w.common t j e choice
 leaves w (action.GoOn j) e choice may held = going_leaves w.common j e
 leaves w (action.Clock d) e choice may held = clock_leaves w.common d
 leaves w (action.Land r n) e choice may held = lands w held r n (and_parts _ _ may).0
 leaves w (action.SetBusy i) e choice may held =
-    let y : Seat = record (seat_of w.common i) { busy = true } in one_seat w.common (set_seat w.common i y) i y (record { phase = refl; mailbox_closed = refl; inbox = λ m h. h; landed = λ k h. h }) refl refl refl
-leaves w (action.EndPoll i) e choice may held = nothing w.common w.common refl refl refl
+    let y : Seat = record (seat_of w.common i) { busy = true } in one_seat w.common (set_seat w.common i y) i y (record { phase = refl; mailbox_closed = refl; inbox = λ m h. h; landed = λ k h. h }) refl refl refl refl
+leaves w (action.EndPoll i) e choice may held = nothing w.common w.common refl refl refl refl
 leaves w (action.Stir i) e choice may held = rouse_leaves w.common i
-leaves w (action.Peer l) e choice may held = nothing w.common (after_peer w.common l) refl refl refl
+leaves w (action.Peer l) e choice may held = nothing w.common (after_peer w.common l) refl refl refl refl
 
 -- where the step is enabled
 pub booked_by_other : (c : Configuration) (w : World) (a : Action) (e : Event) (choice : Choice) → ((i : ℕ) → a ≡ Work i → ⊥) → is_enabled w.common a ≡ true → IsBooked w → IsBooked (after_event c w a e choice)

@@ -2,10 +2,10 @@
 use Rattle.std.proofs.Common.{◌≡◌, ℕ, zero, suc, ◌+◌, ◌<◌, ◌==◌, Bool, true, not, ◌&&◌, List, [], ◌∷◌, length, refl, sym, ap, ◌∙◌, subst, get_or, set, fold, cond, arith}
 use Rattle.std.specs.Prelude.{◌⊎◌}
 use Rattle.std.specs.List.{list_any}
-use Rattle.exec_machine.specs.{declared.state.{MailMessage.MailMessage, Operation.Operation, Request.Request}, Same.{same_message}, Tests.{has_ended, is_asleep, is_in_flight, is_landed, is_of_file, is_queued, is_resolved}, World.{Common, Seat, World, no_request, no_sleeper, request_of, seat_of}}
+use Rattle.exec_machine.specs.{declared.state.{MailMessage.MailMessage, Operation.Operation, Request.Request}, Same.{same_message}, Tests.{has_ended, is_asleep, is_gated, is_in_flight, is_landed, is_of_file, is_queued, is_resolved}, World.{Common, Seat, World, no_request, no_sleeper, request_of, seat_of}}
 use Rattle.exec_machine.specs.declared.state.MailMessage.TheVariants as message
 use Rattle.exec_books.specs.Listed.{is_in}
-use Rattle.exec_books.specs.{Booked.{IsBooked, IsUnderWay, flying_of, unreleased_of}, Listed.AreListed}
+use Rattle.exec_books.specs.{Booked.{AreLinedUp, IsBooked, IsLinedUp, IsUnderWay, flying_of, unreleased_of}, Listed.AreListed}
 use Rattle.exec_books.proofs.DuesLists.{HasDue}
 
 -- of a request: all but whether it flies or has landed
@@ -20,6 +20,7 @@ pub record SameRequest (x y : Request) : Type 0 where
   pub queued : is_queued y.phase ≡ is_queued x.phase
   pub in_flight : is_in_flight y.phase ≡ is_in_flight x.phase
   pub resolved : is_resolved y.phase ≡ is_resolved x.phase
+  pub gated : is_gated y.phase ≡ is_gated x.phase
 
 pub same_request : (x : Request) → SameRequest x x
 same_request = grind arith
@@ -44,9 +45,10 @@ pub record Leaves (s late : Common) : Type 0 where
   pub counts : (i : ℕ) → unreleased_of i late.requests ≡ unreleased_of i s.requests
   pub flights : (i : ℕ) → flying_of i late.requests ≡ flying_of i s.requests
   pub sleepers : late.sleepers ≡ s.sleepers
+  pub opens : late.opens ≡ s.opens
 
 -- neither a request nor a sleeper changes
-pub leaves_by_seats : (s late : Common) → late.requests ≡ s.requests → late.sleepers ≡ s.sleepers → length late.seats ≡ length s.seats → ((i : ℕ) → SameSeat (seat_of s i) (seat_of late i)) → Leaves s late
+pub leaves_by_seats : (s late : Common) → late.requests ≡ s.requests → late.sleepers ≡ s.sleepers → late.opens ≡ s.opens → length late.seats ≡ length s.seats → ((i : ℕ) → SameSeat (seat_of s i) (seat_of late i)) → Leaves s late
 leaves_by_seats = grind arith
 
 -- an element that counts as the one before it
@@ -68,6 +70,12 @@ module _ (w : World) (late : Common) (left : Leaves w.common late) (held : IsBoo
   listed_still : AreListed (record w { common = late })
   listed_still = grind arith
 
+  lined_still : AreLinedUp (record w { common = late })
+  lined_still k = lined k (held.lined_up k) (left.request k)
+    where
+      lined : (k : ℕ) → IsLinedUp w k (request_of s k) → SameRequest (request_of s k) (request_of late k) → IsLinedUp (record w { common = late }) k (request_of late k)
+      lined = grind arith
+
   under_way : (m : MailMessage) (i j : ℕ) → j ≡ i → IsUnderWay m (seat_of s i) → IsUnderWay m (seat_of late j)
   under_way = grind arith
 
@@ -75,6 +83,7 @@ module _ (w : World) (late : Common) (left : Leaves w.common late) (held : IsBoo
   booked_still dues =
       record {
         listed = listed_still;
+        lined_up = lined_still;
         timed = λ k h. (left.request k).timer ∙ held.timed k (sym (left.request k).resolved ∙ h);
         undated = λ k h. let same = left.request k in let was = held.undated k (ap (λ (o : Operation). is_of_file o.kind) (sym same.operation) ∙ h) in (ap (λ (o : Operation). o.deadline) same.operation ∙ was.0, same.timer ∙ was.1);
         let_go = λ k h. (left.request k).resolved ∙ held.let_go k (sym (left.request k).released ∙ h);

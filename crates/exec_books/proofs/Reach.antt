@@ -66,10 +66,10 @@ module _ (c : Configuration) (it : Books) (s : Common) (i : ℕ) where
   abbrev at : Option ℕ → Books
   at polls = record it { polls = polls }
 
-  opens_long : (polls : Option ℕ) (e : Event) (choice : Choice) → length (common_after c (at polls) s i e choice).opens ≡ length s.opens
+  pub opens_long : (polls : Option ℕ) (e : Event) (choice : Choice) → length (common_after c (at polls) s i e choice).opens ≡ length s.opens
   opens_long = grind (arith, length-set, end_long, refusal_long)
 
-  opens_left : (polls : Option ℕ) (e : Event) (choice : Choice) → Allowed c (at polls) s i e choice → (f : ℕ) → names_open (at polls) (common_after c (at polls) s i e choice) e f ≡ false
+  pub opens_left : (polls : Option ℕ) (e : Event) (choice : Choice) → Allowed c (at polls) s i e choice → (f : ℕ) → names_open (at polls) (common_after c (at polls) s i e choice) e f ≡ false
       → open_of (common_after c (at polls) s i e choice) f ≡ open_of s f
   opens_left polls (event.Admit r kind outcome) choice may f other = grind (arith, get_or-set_other, get_or_push)
   opens_left polls e choice _ f other = grind (arith, get_or-set_other, target_set, reaped_target, end_left, refusal_left)

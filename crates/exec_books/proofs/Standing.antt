@@ -28,7 +28,7 @@ module _ (c : Configuration) (w : World) (i : ℕ) (e : Event) (choice : Choice)
   own_here : own_of late i ≡ mine_late
   own_here = grind (arith, get_or_append_left, length-set, get_or-set_same)
 
-  own_apart : (j : ℕ) → j < length w.common.seats → j ≢ i → own_of late j ≡ own_of w j
+  pub own_apart : (j : ℕ) → j < length w.common.seats → j ≢ i → own_of late j ≡ own_of w j
   own_apart = grind (arith, get_or_append_left, length-set, get_or-set_other)
 
   -- its own

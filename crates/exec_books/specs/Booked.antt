@@ -1,8 +1,10 @@
 -- WHAT A WORKER HAS IS IN ITS BOOKS, in each state of a run: its requests stand in its lists, and what it counts is there.
-use Rattle.std.specs.Prelude.{◌≡◌, ℕ, ◌<◌, true, false, not, ◌==◌, ◌&&◌, ◌⊎◌, List, length, count_by, slice_get, Some, None}
+use Rattle.std.specs.Prelude.{◌≡◌, ℕ, ◌<◌, Bool, true, false, not, ◌==◌, ◌&&◌, ◌||◌, ◌⊎◌, List, length, count_by, slice_get, Some, None}
 use Rattle.std.specs.List.{list_any}
-use Rattle.exec_machine.specs.{declared.state.{Forwarding.TheVariants.Sent, MailMessage.MailMessage, Request.Request}, Deadlines.{is_after, next_due, rest_until}, Same.same_message, Tests.{has_ended, is_asleep, is_awake, is_in_flight, is_of_file, is_resolved}, World.{Common, Seat, World, own_of, request_of, seat_of, sleeper_of}}
+use Rattle.exec_machine.specs.{declared.state.{Forwarding.TheVariants.Sent, MailMessage.MailMessage, Request.Request}, Deadlines.{is_after, next_due, rest_until}, Same.{is_number, same_message}, Tests.{has_ended, is_asleep, is_awake, is_gated, is_in_flight, is_of_file, is_resolved}, World.{Common, Open, Seat, World, open_of, own_of, request_of, seat_of, sleeper_of}}
 use Rattle.exec_machine.specs.declared.state.MailMessage.TheVariants as message
+use Rattle.exec_machine.specs.declared.state.Next.TheVariants as next
+use Rattle.exec_outcomes.specs.Accounts.{is_durable}
 use Rattle.exec_books.specs.Listed.{AreListed, is_in}
 
 -- What the first message in the inbox of worker i is about is a request or a sleeper of its own.
@@ -24,6 +26,20 @@ unreleased_of i rs = count_by (λ r. (r.worker == i) && not r.released) rs
 abbrev pub flying_of : ℕ → List Request → ℕ
 flying_of i rs = count_by (λ r. (r.worker == i) && is_in_flight r.phase) rs
 
+-- a request has the permit of this open, or waits for it there
+abbrev pub stands_at : Open → ℕ → Bool
+stands_at o k = is_number k o.holder || is_in k o.waiting
+
+-- AT THE GATE of its open, where that is there, stands a request that waits for the permit, or joins it by the next line of its
+-- worker; and a durable one that neither waits nor is over has the permit.
+pub record IsLinedUp (w : World) (k : ℕ) (r : Request) : Type 0 where
+  pub durable : is_gated r.phase ≡ true → is_durable r.operation.kind ≡ true
+  pub waits : is_gated r.phase ≡ true → r.operation.target < length w.common.opens → (stands_at (open_of w.common r.operation.target) k ≡ true) ⊎ ((own_of w r.worker).next ≡ next.Joins k)
+  pub has : is_durable r.operation.kind ≡ true → is_gated r.phase ≡ false → is_resolved r.phase ≡ false → r.operation.target < length w.common.opens → (open_of w.common r.operation.target).holder ≡ Some k
+
+abbrev pub AreLinedUp : World → Type 0
+AreLinedUp w = (k : ℕ) → IsLinedUp w k (request_of w.common k)
+
 -- the message is in the inbox, or the mailbox is closed
 abbrev pub IsUnderWay : MailMessage → Seat → Type 0
 IsUnderWay m seat = (list_any (same_message m) seat.inbox ≡ true) ⊎ (seat.mailbox_closed ≡ true)
@@ -31,6 +47,8 @@ IsUnderWay m seat = (list_any (same_message m) seat.inbox ≡ true) ⊎ (seat.ma
 pub record IsBooked (w : World) : Type 0 where
   -- each request stands in the lists in which it waits for something
   pub listed : AreListed w
+  -- and at the gate of its open, if it is durable
+  pub lined_up : AreLinedUp w
   -- one that is over has no deadline on the wheel, and only such a one is released
   pub timed : (k : ℕ) → is_resolved (request_of w.common k).phase ≡ true → (request_of w.common k).timer ≡ None
   -- a request of a file has no deadline

@@ -6,11 +6,12 @@ ghost use Rattle.exec_machine.specs.{Choice.{Choice.{Pays, Plain, Posts}, Payer.
 ghost use Rattle.exec_machine.specs.declared.event.Event.TheVariants as event;
 ghost use Rattle.exec_machine.specs.declared.state.MailMessage.TheVariants as message;
 ghost use Rattle.exec_machine.specs.declared.state.Forwarding.TheVariants.{Sent};
+ghost use Rattle.exec_machine.specs.declared.state.Next.TheVariants as next;
 ghost use Rattle.exec_machine.specs.declared.state.RequestPhase.TheVariants as phase;
 ghost use Rattle.exec_machine.specs.declared.state.Rest.TheVariants as rest;
 ghost use Rattle.exec_machine.specs.declared.state.WorkerPhase.TheVariants.{Ended};
-ghost use Rattle.exec_books.specs.{Booked.{IsBooked}, Listed.{IsListed}, Reach.{OnlyReaches, names_open, names_task, new_by, request_elsewhere, seat_elsewhere, sleeper_elsewhere}};
-ghost use Rattle.exec_books.specs.Examples.{sending, its_own, its_seat, its_request, with_own, with_seat, beside, begun_with};
+ghost use Rattle.exec_books.specs.{Booked.{IsBooked, IsLinedUp}, Listed.{IsListed}, Reach.{OnlyReaches, names_open, names_task, new_by, request_elsewhere, seat_elsewhere, sleeper_elsewhere}};
+ghost use Rattle.exec_books.specs.Examples.{sending, its_own, its_seat, its_request, its_write, at_gate, with_own, with_seat, beside, begun_with};
 
 /// A root sends ten bytes, which may take ten milliseconds, and its worker makes its steps until it sleeps. The kernel
 /// has the request then, and its deadline is on the wheel: so it is in none of the lists. It is the one in flight, and
@@ -37,7 +38,30 @@ pub fn in_no_list()
     ensures over { IsListed no_own [] 0 (record its_request { phase = phase.Resolved Success }) → ⊥ }
 {}
 
-/// Of the worker that sleeps, books that are wrong. Its request is queued, and in no list; is over, and on the wheel
+/// A durable write that waits for the permit of its open stands at the gate, where another may have the permit; or it joins
+/// by the next line of its worker. Once it is queued it has the permit. Refused is one that waits and stands nowhere, one
+/// that is queued while another has the permit, or nobody, and what isn't durable, and waits. Of an open that isn't there
+/// nothing is said.
+pub fn at_a_gate()
+    ensures behind { let o = record no_open { holder = Some 1; waiting = 0 ∷ [] } in
+        IsLinedUp (at_gate its_own o its_write) 0 its_write }
+    ensures first { IsLinedUp (at_gate its_own (record no_open { holder = Some 0 }) its_write) 0 its_write }
+    ensures joins { IsLinedUp (at_gate (record its_own { next = next.Joins 0 }) no_open its_write) 0 its_write }
+    ensures queued { let r = record its_write { phase = phase.Queued } in
+        IsLinedUp (at_gate its_own (record no_open { holder = Some 0 }) r) 0 r }
+    ensures nowhere { IsLinedUp (at_gate its_own no_open its_write) 0 its_write → ⊥ }
+    ensures joins_another { IsLinedUp (at_gate (record its_own { next = next.Joins 1 }) no_open its_write) 0 its_write → ⊥ }
+    ensures too_early { let r = record its_write { phase = phase.Queued } in
+        IsLinedUp (at_gate its_own (record no_open { holder = Some 1; waiting = 0 ∷ [] }) r) 0 r → ⊥ }
+    ensures without { let r = record its_write { phase = phase.Queued } in IsLinedUp (at_gate its_own no_open r) 0 r → ⊥ }
+    ensures not_durable { let r = record its_request { phase = phase.Gated } in
+        IsLinedUp (at_gate its_own (record no_open { holder = Some 0 }) r) 0 r → ⊥ }
+    ensures no_such_open { let r = record its_write { operation = record its_write.operation { target = 1 } } in
+        IsLinedUp (at_gate its_own no_open r) 0 r }
+{}
+
+/// Of the worker that sleeps, books that are wrong. Its request is queued, and in no list; is a durable write that waits for
+/// a permit, and stands at no gate, or that is queued, and another has the permit; is over, and on the wheel
 /// still; is of a file, and has a deadline; was released, and flies; is one, and two are counted; flies, and seven are
 /// said to; is of a worker that isn't there; or was forwarded by a message that is in no inbox. The worker sleeps without
 /// end, though a deadline is to come; or on, though that has come. Or a second worker has a cancel of the first one's
@@ -45,6 +69,9 @@ pub fn in_no_list()
 /// or was forwarded by a message that is in no inbox.
 pub fn wrong_books()
     ensures listed { IsBooked (with_own its_own (record its_request { phase = phase.Queued })) → ⊥ }
+    ensures gated { IsBooked (at_gate its_own no_open its_write) → ⊥ }
+    ensures permit { IsBooked (at_gate (record its_own { ready = 0 ∷ [] }) (record no_open { holder = Some 1 })
+        (record its_write { phase = phase.Queued })) → ⊥ }
     ensures timed { IsBooked (with_own (record its_own { ended = 0 ∷ [] })
         (record its_request { phase = phase.Resolved Success })) → ⊥ }
     ensures undated { IsBooked (with_own its_own

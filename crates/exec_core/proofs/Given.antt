@@ -81,8 +81,7 @@ module _ {B L : Type 0} (left : B → L) (spot : L → Option Said → Spot) (p 
         holder = holder left spot p c stands k;
         passes = passes left spot p c stands k;
         gated = gated left spot p c stands k;
-        awaits = awaits left spot p c stands k;
-        sleeps = sleeps left spot p c stands k;
+        waits = record { requests = awaits left spot p c stands k; sleepers = sleeps left spot p c stands k };
         slots = slots left spot p c stands k;
         beds = beds left spot p c stands k;
         back = back;

@@ -27,13 +27,13 @@ none_or_some (x ∷ xs) = grind arith
 abed_owes_nothing : (p : Place) → is_abed p ≡ true → owes_nothing p ≡ true
 abed_owes_nothing = grind arith
 
-record Abed (p : Place) : Type 0 where
+pub record Abed (p : Place) : Type 0 where
   pub looked : has_looked p ≡ true
   pub published : is_published p ≡ true
   pub stays : is_withdrawing p ≡ false
   pub dry : is_dry p ≡ true
 
-abed : (p : Place) → is_abed p ≡ true → stays_closing p ≡ false → Abed p
+pub abed : (p : Place) → is_abed p ≡ true → stays_closing p ≡ false → Abed p
 abed = grind arith
 
 -- who has no call half done owes nothing
@@ -70,7 +70,7 @@ module _ (c : Configuration) (x : Playing) (held : IsRestful c x) (all : all_asl
   unsignalled i (Someone.Worker j h) = some_at_all (signals (place_at c x j)) i (idle_parts j).0 h
   unsignalled i (Someone.Caller j h) = some_at_all (call_signals (caller_of x j).place) i (callers j).signals h
 
-  unraised : (i : ℕ) (ring : Bool) → IsRaised c x i ring → ⊥
+  pub unraised : (i : ℕ) (ring : Bool) → IsRaised c x i ring → ⊥
   unraised i ring (Someone.Worker j h) = some_at_all (raises (place_at c x j)) (record { worker = i; ring = ring }) (idle_parts j).1 h
   unraised i ring (Someone.Caller j h) = some_at_all (call_raises (caller_of x j).place) (record { worker = i; ring = ring }) (callers j).raises h
 

@@ -22,7 +22,7 @@ seen (suc (suc i)) = Place.BeginTurn
 by_place : (P : Place → Type 0) → P (Place.WordWait InWordWait.DisarmWord) → P Place.BeginTurn → (i : ℕ) → P (seen i)
 by_place = grind arith
 
-place : (i : ℕ) → place_at two rested i ≡ seen i
+pub place : (i : ℕ) → place_at two rested i ≡ seen i
 place zero = refl
 place (suc zero) = refl
 place (suc (suc i)) = refl
@@ -236,7 +236,7 @@ posted =
 -- A WAKE THAT IS LOST
 
 -- where they are there, with another thing that they share, nobody does it: no worker, and no caller
-nobody : {W : Place → Type 0} {C : CallPlace → Type 0} (x : Playing) →
+pub nobody : {W : Place → Type 0} {C : CallPlace → Type 0} (x : Playing) →
     ((i : ℕ) → place_at two x i ≡ seen i) → ((j : ℕ) → (caller_of x j).place ≡ CallPlace.Nothing) →
     (W (Place.WordWait InWordWait.DisarmWord) → ⊥) → (W Place.BeginTurn → ⊥) → (C CallPlace.Nothing → ⊥) → Someone two x W C → ⊥
 nobody {W} {C} x places calls here past call_not (Someone.Worker j w) = by_place (λ p. W p → ⊥) here past j (subst W (places j) w)

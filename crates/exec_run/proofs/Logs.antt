@@ -3,7 +3,7 @@ use Rattle.std.proofs.Common.{◌≡◌, ◌≤◌, sum_by, List, [], ◌∷◌,
 use Rattle.exec_machine.specs.{declared.{step.Step.Step}, World.World, Run.{RunsBy, after_steps}, Progress.{Plan, begin, no_stretch, RightlyAsleepBy}, Examples.{Told, choices_of, lines_of}}
 use Rattle.exec_moves.specs.Plays.{Playing, by_step, first_playing, GoesByMoves}
 use Rattle.exec_rest.specs.AtRest.{RestsWell}
-use Rattle.exec_settled.{proofs.Resting.has_let_go, specs.Settled.HaveLetGo}
+use Rattle.exec_settled.{proofs.Resting.has_let_go, specs.{Parked.{NobodySleepsOnWork, NoneIsForgotten}, Settled.HaveLetGo}}
 use Rattle.exec_core.specs.{Steady.{IsPacedThere, IsSteadyThere}, Turns.IsOrderly}
 use Rattle.exec_run.specs.{Log.{InEach, IsTheLogOf, KeepOwned, NoneOversleeps}, Steps.{Goes}}
 use Rattle.exec_base.specs.declared.limits.TheConstants.{MOST_STEPS}
@@ -59,7 +59,9 @@ is_the_log p steps told begins few has_lines goes =
       plays = record { has_lines = has_lines; moves = by_moves p (first_playing p) told goes };
       orderly = orderly_by p (first_playing p) told begins.orderly goes;
       owned = each_by (λ x. KeepOwned x.world) p (λ x there. there.steady.booked.let_go) (first_playing p) told begins.rests goes;
+      unforgotten = each_by (NoneIsForgotten p.config) p (λ x there. there.rests.unforgotten) (first_playing p) told begins.rests goes;
       dues = each_by (λ x. NoneOversleeps x.world) p (λ x there. there.steady.booked.dues) (first_playing p) told begins.rests goes;
+      parked = each_by (NobodySleepsOnWork p.config) p (λ x there. there.rests.parked) (first_playing p) told begins.rests goes;
       rests = each_by (RestsWell p.config) p (λ x there. there.rests.rests) (first_playing p) told begins.rests goes;
       ended = each_by (λ x. HaveLetGo x.world) p (λ x there. has_let_go x.world there.steady.booked) (first_playing p) told begins.rests goes;
       asleep = asleep_by p (first_playing p) told begins.rests goes;

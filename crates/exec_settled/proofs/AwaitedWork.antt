@@ -87,7 +87,7 @@ module _ (c : Configuration) (x : Playing) (laid : IsLaidOut c x) (i : ℕ) (m :
 
   module _ (t k : ℕ) (w : WaitsFor late t (waiting.Request k)) (was : WaitsFor s t (waiting.Request k)) where
     held : IsWaitedFor s t k
-    held = given.awaits t k was
+    held = given.waits.requests t k was
 
     change : Forwarded m.event k (request_of s k) (request_of late k)
     change = forwarded c me s i m.event m.choice allows k held.there
@@ -116,7 +116,7 @@ module _ (c : Configuration) (x : Playing) (laid : IsLaidOut c x) (i : ℕ) (m :
     ]
 
     observed_late : (request_of late k).observed ≡ true
-    observed_late = (later.awaits t k w).observed
+    observed_late = (later.waits.requests t k w).observed
 
     in_slot : is_resolved (request_of s k).phase ≡ false → (request_of s k).worker ≡ i → has_number k (numbers_in (desk_of c x i).requests.held) ≡ true
     in_slot unended here = subst (λ j. has_number k (numbers_in (desk_of c x j).requests.held) ≡ true) here (given.slots k unended)
@@ -198,7 +198,7 @@ module _ (c : Configuration) (x : Playing) (laid : IsLaidOut c x) (i : ℕ) (m :
 
   module _ (t z : ℕ) (w : WaitsFor late t (waiting.Timer z)) (was : WaitsFor s t (waiting.Timer z)) where
     slept : IsSleptBy s t z
-    slept = given.sleeps t z was
+    slept = given.waits.sleepers t z was
 
     dozes : Dozed m.event z (sleeper_of s z) (sleeper_of late z)
     dozes = dozed c me s i m.event m.choice z slept.there
@@ -295,14 +295,14 @@ module _ (c : Configuration) (x : Playing) (laid : IsLaidOut c x) (i : ℕ) (m :
         let in_it : has_number k (numbers_in (desk_of c x i).requests.held) ≡ true = subst (λ j. has_number k (numbers_in (desk_of c x j).requests.held) ≡ true) it.1 (given.slots k it.3) in
         subst (λ j. has_number k (desk_of c next j).awaited ≡ true) (sym it.0.worker)
         (desk_then c x laid i m may allows born tells (λ d. has_number k d.awaited ≡ true) (request_of s k).worker (λ own_one. tells.waits k is in_it) (λ apart. absurd (apart it.1)))
-    | inr (inr sends) ↦ sent_unsent (request_of late k).forwarding (asked k sends.0 (later.awaits t k w).there sends.1) unsent
+    | inr (inr sends) ↦ sent_unsent (request_of late k).forwarding (asked k sends.0 (later.waits.requests t k w).there sends.1) unsent
   ]
 
   woken : (t k : ℕ) → WaitsFor late t (waiting.Request k) → (request_of late k).forwarding ≡ forwarding.Unsent → is_resolved (request_of late k).phase ≡ true → IsToBeWoken c next (request_of late k).worker t
   woken t k w unsent over = elim (for_request c x laid i m may allows born tells t k w) [
     | inl was ↦ woken_still t k w was unsent over
     | inr (inl is) ↦ absurd (true≢false (sym over ∙ ap is_resolved (begun k is).0.phase ∙ (begun k is).3))
-    | inr (inr sends) ↦ sent_unsent (request_of late k).forwarding (asked k sends.0 (later.awaits t k w).there sends.1) unsent
+    | inr (inr sends) ↦ sent_unsent (request_of late k).forwarding (asked k sends.0 (later.waits.requests t k w).there sends.1) unsent
   ]
 
   answered : (t k : ℕ) → WaitsFor late t (waiting.Request k) → (request_of late k).forwarding ≡ forwarding.Applied → is_resolved (request_of late k).phase ≡ true
@@ -310,7 +310,7 @@ module _ (c : Configuration) (x : Playing) (laid : IsLaidOut c x) (i : ℕ) (m :
   answered t k w applied over = elim (for_request c x laid i m may allows born tells t k w) [
     | inl was ↦ answered_still t k w was applied over
     | inr (inl is) ↦ applied_unsent (request_of late k).forwarding applied ((begun k is).0.forwarding ∙ (begun k is).2)
-    | inr (inr sends) ↦ sent_applied (request_of late k).forwarding (asked k sends.0 (later.awaits t k w).there sends.1) applied
+    | inr (inr sends) ↦ sent_applied (request_of late k).forwarding (asked k sends.0 (later.waits.requests t k w).there sends.1) applied
   ]
 
   unfired : (z until : ℕ) → m.event ≡ event.Timer z until → (sleeper_of late z).fired ≡ false

@@ -46,5 +46,6 @@ pub mod AwaitedOthers
 pub mod AwaitedKept
 pub mod Undone
 pub mod Resting
+pub mod Parked
 pub mod Rightly
 pub mod TwoAsleep

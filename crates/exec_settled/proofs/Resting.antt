@@ -4,7 +4,7 @@ use Rattle.std.proofs.lemmas.Bool.{true≢false, false≢true, cases_lt, eq-eqb,
 use Rattle.std.proofs.lemmas.List.{get_or_past, Sums.sum_by-cons}
 use Rattle.std.specs.Prelude.{nat_le}
 use Rattle.std.specs.List.{list_any}
-use Rattle.exec_machine.specs.{declared.{config.Configuration.Configuration, state.{Request.Request, RequestPhase.RequestPhase}}, Deadlines.{earlier, first_timer, first_until, is_after}, Progress.{all_asleep, is_cancel_untold, is_sleeper_unfinished}, Tests.{has_ended, is_gated, is_in_flight, is_landed, is_open, is_queued, is_resolved, is_staged}, World.{Common, World, no_request, own_of, request_of, seat_of, sleeper_of}}
+use Rattle.exec_machine.specs.{declared.{config.Configuration.Configuration, state.{Request.Request, RequestPhase.RequestPhase}}, Deadlines.{earlier, first_timer, first_until, is_after}, Progress.{all_asleep, is_cancel_untold, is_sleeper_unfinished}, Tests.{has_ended, is_asleep, is_gated, is_in_flight, is_landed, is_open, is_queued, is_resolved, is_staged}, World.{Common, World, no_request, own_of, request_of, seat_of, sleeper_of}}
 use Rattle.exec_moves.specs.{declared.{handing.{AfterCallbacks.AfterCallbacks, Heard.Heard}, place.{InCallbacks.InCallbacks, InPoll.InPoll, Place.Place}}, Plays.{Playing, desk_of, first_desk}, State.Desk}
 use Rattle.exec_books.specs.Listed.{is_in}
 use Rattle.exec_settled.proofs.Undone.{after_earlier, none_slept, false_from_ne_true}
@@ -72,6 +72,58 @@ pub record IsOver (p : RequestPhase) : Type 0 where
 pub over_phase : (p : RequestPhase) → is_resolved p ≡ true → IsOver p
 over_phase = grind arith
 
+-- where none of these isn't over
+none_in : (s : Common) (untold : List ℕ) → ((k : ℕ) → is_in k untold ≡ true → is_resolved (request_of s k).phase ≡ true) → list_any (λ r. not (is_resolved (request_of s r).phase)) untold ≡ false
+none_in s [] each = refl
+none_in s (r ∷ untold) each =
+    rw (each r (or_left (r == r) (is_in r untold) (eq-eqb r r refl)), none_in s untold (λ k h. each k (or_right (r == k) (is_in k untold) h))) refl
+
+-- A WORKER THAT SLEEPS, whatever others do
+
+module _ (c : Configuration) (x : Playing) (held : IsRestful c x) (booked : IsBooked x.world) (settled : IsSettled c x) (i : ℕ) (asleep : sleeps c x i ≡ true) where
+  abbrev its : Common
+  its = x.world.common
+
+  -- none of its requests is staged or landed, and the kernel was told of all cancels of those that aren't over
+  pub entered : (k : ℕ) → (request_of its k).worker ≡ i → (is_staged (request_of its k).phase ≡ false) × (is_landed (request_of its k).phase ≡ false)
+  entered k own = elim (abed_where (place_at c x i) (held.abed i asleep)) [
+    | inl on_word ↦ let over = over_phase (request_of its k).phase (all_over i its.requests (settled.free i on_word) k own) in (over.staged, over.landed)
+    | inr on_ring ↦ (
+      (settled.entered_then i asleep on_ring).staged k own,
+      false_from_ne_true (is_landed (request_of its k).phase) (λ landed.
+          false≢true (subst (λ l. is_in k l ≡ true) (settled.landed i asleep on_ring) (subst (λ j. is_in k (seat_of its j).landed ≡ true) own ((booked.listed k).landed_in landed)))),
+    )
+  ]
+
+  untold_over : (k : ℕ) → is_in k (own_of x.world i).untold ≡ true → is_resolved (request_of its k).phase ≡ true
+  untold_over k untold = elim (abed_where (place_at c x i) (held.abed i asleep)) [
+    | inl on_word ↦ all_over i its.requests (settled.free i on_word) k (booked.untold i k untold).1
+    | inr on_ring ↦ absurd (false≢true (subst (λ l. is_in k l ≡ true) (settled.entered_then i asleep on_ring).untold untold))
+  ]
+
+  pub cancels_told : is_cancel_untold its (own_of x.world i) ≡ false
+  cancels_told = none_in its (own_of x.world i).untold untold_over
+
+  -- AN OPEN ONE sleeps in a turn
+
+  module _ (placed : IsPlaced c x) (opened : is_open (seat_of its i).phase ≡ true) where
+    pub tests : has_tested (place_at c x i) ≡ true
+    tests = abed_tested (place_at c x i) (held.abed i asleep) (placed.stays i opened)
+
+    pub told_open : HasTold (own_of x.world i) (desk_of c x i)
+    told_open = settled.told i (or_left (has_tested (place_at c x i)) (is_end (place_at c x i)) tests)
+
+    pub submitted : HasSubmitted c (own_of x.world i)
+    submitted = settled.submitted i tests
+
+    pub both_ahead : (is_after its.clock (first_timer i its.requests) ≡ true) × (is_after its.clock (first_until i its.sleepers) ≡ true)
+    both_ahead =
+        after_earlier its.clock (first_timer i its.requests) (first_until i its.sleepers)
+        (subst (λ b. is_after its.clock (if b then earlier (first_timer i its.requests) (first_until i its.sleepers) else first_timer i its.requests) ≡ true) opened (booked.dues i (not-true _ asleep)).1)
+
+    pub none_fires : (z : ℕ) → (sleeper_of its z).worker ≡ i → is_sleeper_unfinished its (sleeper_of its z) ≡ false
+    none_fires z own = subst (λ j. (is_asleep j (sleeper_of its z) && nat_le (sleeper_of its z).until its.clock) ≡ false) (sym own) (none_slept i its.clock its.sleepers both_ahead.1 z)
+
 -- WORKERS, where all sleep and no call is half done
 
 module _ (c : Configuration) (x : Playing) (placed : IsPlaced c x) (held : IsRestful c x) (booked : IsBooked x.world) (settled : IsSettled c x) (all : all_asleep x.world ≡ true) where
@@ -107,17 +159,10 @@ module _ (c : Configuration) (x : Playing) (placed : IsPlaced c x) (held : IsRes
     | inr idle ↦ absurd (false≢true (sym (ap is_idle h) ∙ idle))
   ]
 
-  -- an open one that sleeps is in a turn
-  tests : (i : ℕ) → is_open (seat_of s i).phase ≡ true → sleeps c x i ≡ true → has_tested (place_at c x i) ≡ true
-  tests i opened asleep = abed_tested (place_at c x i) (held.abed i asleep) (placed.stays i opened)
-
-  pub told_open : (i : ℕ) → is_open (seat_of s i).phase ≡ true → sleeps c x i ≡ true → HasTold (own_of x.world i) (desk_of c x i)
-  told_open i opened asleep = settled.told i (or_left (has_tested (place_at c x i)) (is_end (place_at c x i)) (tests i opened asleep))
-
   pub told : (i : ℕ) → i < length x.desks → HasTold (own_of x.world i) (desk_of c x i)
   told i within = elim (down c x held all i) [
     | inl over ↦ settled.told i (or_right (has_tested (place_at c x i)) (is_end (place_at c x i)) (placed.over i within over))
-    | inr asleep ↦ told_open i asleep.0 asleep.1
+    | inr asleep ↦ told_open c x held booked settled i asleep.1 placed asleep.0
   ]
 
   -- A WORKER THAT HAS ENDED has no request that isn't over, nor a sleeper
@@ -125,51 +170,14 @@ module _ (c : Configuration) (x : Playing) (placed : IsPlaced c x) (held : IsRes
   pub over_of : (i : ℕ) → has_ended (seat_of s i).phase ≡ true → (k : ℕ) → (request_of s k).worker ≡ i → (is_resolved (request_of s k).phase ≡ true) × ((request_of s k).released ≡ true)
   over_of = grind (arith, all_released)
 
-  -- AN OPEN ONE THAT SLEEPS
-
-  module _ (i : ℕ) (opened : is_open (seat_of s i).phase ≡ true) (asleep : sleeps c x i ≡ true) where
-    pub submitted : HasSubmitted c (own_of x.world i)
-    submitted = settled.submitted i (tests i opened asleep)
-
-    -- none of its requests is staged or landed, and the kernel was told of all cancels of those that aren't over
-    pub entered : (k : ℕ) → (request_of s k).worker ≡ i → (is_staged (request_of s k).phase ≡ false) × (is_landed (request_of s k).phase ≡ false)
-    entered k own = elim (abed_where (place_at c x i) (held.abed i asleep)) [
-      | inl on_word ↦ let over = over_phase (request_of s k).phase (all_over i s.requests (settled.free i on_word) k own) in (over.staged, over.landed)
-      | inr on_ring ↦ (
-        (settled.entered_then i asleep on_ring).staged k own,
-        false_from_ne_true (is_landed (request_of s k).phase) (λ landed.
-            false≢true (subst (λ l. is_in k l ≡ true) (settled.landed i asleep on_ring) (subst (λ j. is_in k (seat_of s j).landed ≡ true) own ((booked.listed k).landed_in landed)))),
-      )
-    ]
-
-    untold_over : (k : ℕ) → is_in k (own_of x.world i).untold ≡ true → is_resolved (request_of s k).phase ≡ true
-    untold_over k untold = elim (abed_where (place_at c x i) (held.abed i asleep)) [
-      | inl on_word ↦ all_over i s.requests (settled.free i on_word) k (booked.untold i k untold).1
-      | inr on_ring ↦ absurd (false≢true (subst (λ l. is_in k l ≡ true) (settled.entered_then i asleep on_ring).untold untold))
-    ]
-
-    pub both_ahead : (is_after s.clock (first_timer i s.requests) ≡ true) × (is_after s.clock (first_until i s.sleepers) ≡ true)
-    both_ahead =
-        after_earlier s.clock (first_timer i s.requests) (first_until i s.sleepers)
-        (subst (λ b. is_after s.clock (if b then earlier (first_timer i s.requests) (first_until i s.sleepers) else first_timer i s.requests) ≡ true) opened (booked.dues i (not-true _ asleep)).1)
-
-  -- CANCELS THAT THE KERNEL WASN'T TOLD
-
-  none_in : (untold : List ℕ) → ((k : ℕ) → is_in k untold ≡ true → is_resolved (request_of s k).phase ≡ true) → list_any (λ r. not (is_resolved (request_of s r).phase)) untold ≡ false
-  none_in [] each = refl
-  none_in (r ∷ untold) each =
-      rw (each r (or_left (r == r) (is_in r untold) (eq-eqb r r refl)), none_in untold (λ k h. each k (or_right (r == k) (is_in k untold) h))) refl
-
   pub cancels_done : (i : ℕ) → is_cancel_untold s (own_of x.world i) ≡ false
-  cancels_done i = none_in (own_of x.world i).untold (λ k untold. elim (down c x held all i) [
-    | inl over ↦ (over_of i over k (booked.untold i k untold).1).0
-    | inr asleep ↦ untold_over i asleep.0 asleep.1 k untold
-  ])
-
-  -- SLEEPERS
+  cancels_done i = elim (down c x held all i) [
+    | inl over ↦ none_in s (own_of x.world i).untold (λ k untold. (over_of i over k (booked.untold i k untold).1).0)
+    | inr asleep ↦ cancels_told c x held booked settled i asleep.1
+  ]
 
   pub sleeper_done : (z : ℕ) → is_sleeper_unfinished s (sleeper_of s z) ≡ false
   sleeper_done z = let i = (sleeper_of s z).worker in elim (down c x held all i) [
     | inl over ↦ ap (λ b. b && nat_le (sleeper_of s z).until s.clock) ((booked.over i over).1 z)
-    | inr asleep ↦ none_slept i s.clock s.sleepers (both_ahead i asleep.0 asleep.1).1 z
+    | inr asleep ↦ none_fires c x held booked settled i asleep.1 placed asleep.0 z refl
   ]

@@ -1,22 +1,21 @@
 -- Where all workers sleep nothing is unfinished.
-use Rattle.std.proofs.Common.{◌≡◌, ◌≢◌, ℕ, ◌<◌, ◌==◌, ◌&&◌, ◌||◌, Bool, true, false, not, List, [], length, Option, Some, None, ◌∙◌, refl, sym, ap, subst, arith, inl, inr}
-use Rattle.std.proofs.lemmas.Bool.{true≢false, false≢true, and_parts, cases_Bool, eqb-true, or_cases}
+use Rattle.std.proofs.Common.{◌≡◌, ℕ, ◌<◌, ◌==◌, ◌&&◌, ◌||◌, true, false, not, length, None, ◌∙◌, refl, sym, ap, subst, arith, inl, inr}
+use Rattle.std.proofs.lemmas.Bool.{true≢false, false≢true, and_parts, cases_Bool}
 use Rattle.std.proofs.lemmas.{List.get_or_past, Option.{get_or_from_slice_get, slice_get_cases}}
 use Rattle.std.specs.Prelude.{nat_lt}
 use Rattle.std.specs.List.{list_all, list_any}
-use Rattle.exec_machine.specs.{declared.{config.Configuration.Configuration, state.{Forwarding.Forwarding, MailMessage.MailMessage, Request.Request, TaskPhase.TaskPhase, Waiting.Waiting, WorkerPhase.WorkerPhase}}, Deadlines.is_due, Progress.{IsRightlyAsleep, NothingUnfinished, all_asleep, has_come, has_to_close, is_request_unfinished, is_runnable, is_task_unfinished, sleeps_for_nothing}, Ranges.ring_size, Same.{is_none, is_number, same_message}, Tests.{has_ended, is_awake, is_closing, is_done, is_empty, is_gated, is_open, is_queued, is_ready, is_resolved}, World.{Common, Own as Books, Task, no_task, open_of, own_of, request_of, seat_of, sleeper_of, task_of}}
+use Rattle.exec_machine.specs.{declared.{config.Configuration.Configuration, state.{Forwarding.Forwarding, MailMessage.MailMessage, Request.Request, Waiting.Waiting, WorkerPhase.WorkerPhase}}, Deadlines.is_due, Progress.{IsRightlyAsleep, NothingUnfinished, all_asleep, has_come, has_to_close, is_request_unfinished, is_runnable, is_task_unfinished, sleeps_for_nothing}, Ranges.ring_size, Same.{is_none, is_number, same_message}, Tests.{has_ended, is_awake, is_closing, is_done, is_open, is_resolved}, World.{Common, Task, no_task, open_of, own_of, request_of, seat_of, sleeper_of, task_of}}
 use Rattle.exec_machine.specs.declared.state.Forwarding.TheVariants as forwarding
 use Rattle.exec_machine.specs.declared.state.MailMessage.TheVariants as message
 use Rattle.exec_machine.specs.declared.state.Waiting.TheVariants as waiting
-use Rattle.exec_moves.specs.{declared.{handing.Heard.Heard, place.Place.Place}, Plays.{Playing, desk_of}, Poll.is_noted, Told.has_number}
-use Rattle.exec_books.specs.Listed.{is_in}
-use Rattle.exec_settled.proofs.Undone.{eight, enroll_case, none_due, not_all, false_from_ne_true}
+use Rattle.exec_moves.specs.{declared.{handing.Heard.Heard, place.Place.Place}, Plays.{Playing, desk_of}}
+use Rattle.exec_settled.proofs.Undone.{eight, not_all, false_from_ne_true}
 use Rattle.exec_books.specs.Booked.{IsBooked, IsUnderWay}
-use Rattle.exec_rest.specs.{AtRest.{IsAtRest, IsPlaced, RestsWell, stays_closing}, Rested.{IsRestful, is_latched, place_at, sleeps}}
-use Rattle.exec_rest.proofs.Rest.{down, unlatched}
-use Rattle.exec_settled.specs.{Awaited.{IsAwaited, IsToBeWoken, IsToHear}, Given.{IsGiven, WaitsFor}, Permits.{IsPermitted, is_past}, Settled.{IsSettled}}
+use Rattle.exec_rest.specs.{AtRest.{IsAtRest, IsPlaced, RestsWell, stays_closing}, Rested.{IsRestful, place_at, sleeps}}
+use Rattle.exec_rest.proofs.Rest.{down, unraised, unsignalled}
+use Rattle.exec_settled.specs.{Awaited.{IsAwaited, IsToBeWoken, IsToHear}, Given.{IsGiven, WaitsFor}, Parked.{IsBeingWoken, IsParked}, Permits.IsPermitted, Settled.{IsSettled}}
 use Rattle.exec_rest.specs.AtRest.{stays_closing}
-use Rattle.exec_settled.proofs.Resting.{abed_past, both_ahead, cancels_done, entered, nobody_hands, nobody_looks, nobody_passes, nobody_wakes, over_of, over_phase, sleeper_done, submitted, told, told_open}
+use Rattle.exec_settled.proofs.{Parked.{need_not_close, no_number, request_done, runs_on}, Resting.{cancels_done, nobody_hands, nobody_looks, nobody_passes, nobody_wakes, over_of, over_phase, sleeper_done, told}}
 
 waits_there : (p : Place) → stays_closing p ≡ true → stays_closing p ≡ true
 waits_there = grind (arith, false≢true)
@@ -24,29 +23,8 @@ waits_there = grind (arith, false≢true)
 not_both : (p : WorkerPhase) → is_open p ≡ true → has_ended p ≡ true → ⊥
 not_both = grind arith
 
--- a task that is to be polled, or was woken in a poll
-runs_on : (p : TaskPhase) → (is_ready p || is_noted p) ≡ true → is_runnable p ≡ true
-runs_on = grind arith
-
--- a number is in no empty list
-no_number : (k : ℕ) (ns : List ℕ) → ns ≡ [] → has_number k ns ≡ true → ⊥
-no_number k ns none h = false≢true (subst (λ l. has_number k l ≡ true) none h)
-
-number_is : (k : ℕ) (o : Option ℕ) → is_number k o ≡ true → o ≡ Some k
-number_is = grind (arith, false≢true, eqb-true)
-
-no_list : (k : ℕ) (list : List ℕ) → list ≡ [] → is_in k list ≡ true → ⊥
-no_list k list none h = false≢true (subst (λ l. is_in k l ≡ true) none h)
-
-stuck : (q cancelled n : Bool) → (q ≡ true → n ≡ false) → (q && not cancelled && n) ≡ false
-stuck = grind arith
-
 timeless : (i clock : ℕ) (it : Request) → it.timer ≡ None → is_due i clock it ≡ false
 timeless i clock it none = elim (cases_Bool (it.worker == i)) [ inl own ↦ rw (own, none) refl | inr other ↦ rw other refl ]
-
--- a request that is ready may be staged only where the ring has a place
-full : (me : Books) (n : ℕ) → me.ready ≢ [] → (not (is_empty me.ready) && nat_lt me.in_flight n) ≡ false → nat_lt me.in_flight n ≡ false
-full = grind arith
 
 -- who waits for nothing that has come is done for now
 waiting_done : (s : Common) (t : Task) → is_runnable t.phase ≡ false → (is_done t.phase || t.fresh) ≡ true → (is_done t.phase ≡ false → has_come s t.waiting ≡ false) → is_task_unfinished s t ≡ false
@@ -60,21 +38,14 @@ module _ (c : Configuration) (x : Playing) (placed : IsPlaced c x) (given : IsGi
   module _ (all : all_asleep x.world ≡ true) where
     -- A REQUEST
 
-    -- its permit was granted: nobody passes one on any more, and its worker was not signalled
-    ungranted : (k : ℕ) → let it = request_of s k in is_open (seat_of s it.worker).phase ≡ true → sleeps c x it.worker ≡ true → (is_gated it.phase && is_number k (open_of s it.operation.target).holder) ≡ false
-    ungranted k opened asleep = false_from_ne_true _ (λ h.
-        let it = request_of s k in
-        let both = and_parts (is_gated it.phase) (is_number k (open_of s it.operation.target).holder) h in
-        elim (permitted.granted k both.0 (number_is k (open_of s it.operation.target).holder both.1) opened) [
-          | inl passes ↦ nobody_passes c x placed held booked settled all passes.0 it.operation.target passes.1
-          | inr told ↦ elim told [
-            | inl handed ↦ nobody_hands c x placed held booked settled all handed.0 it.worker handed.1
-            | inr looks ↦ elim (or_cases (is_latched c x it.worker) (not (is_past it.operation.target (place_at c x it.worker))) looks) [
-              | inl latched ↦ unlatched c x held all it.worker asleep latched
-              | inr ahead ↦ false≢true (sym (ap not (abed_past it.operation.target (place_at c x it.worker) (held.abed it.worker asleep) (placed.stays it.worker opened))) ∙ ahead)
-            ]
-          ]
-        ])
+    unwoken : (i : ℕ) → IsBeingWoken c x i → ⊥
+    unwoken i (IsBeingWoken.Signalled signalled) = unsignalled c x held all i signalled
+    unwoken i (IsBeingWoken.Raised ring raised) = unraised c x held all i ring raised
+    unwoken i (IsBeingWoken.Passed k (own, gated, holds, passes)) = nobody_passes c x placed held booked settled all passes.0 (request_of s k).operation.target passes.1
+    unwoken i (IsBeingWoken.Handed handed) = nobody_hands c x placed held booked settled all handed.0 i handed.1
+
+    parked : (i : ℕ) → is_open (seat_of s i).phase ≡ true → sleeps c x i ≡ true → IsParked c x i
+    parked i opened asleep = record { opened = opened; asleep = asleep; left = unwoken i }
 
     of_ended : (k : ℕ) → has_ended (seat_of s (request_of s k).worker).phase ≡ true → is_request_unfinished c x.world k (request_of s k) ≡ false
     of_ended k over =
@@ -90,25 +61,10 @@ module _ (c : Configuration) (x : Playing) (placed : IsPlaced c x) (given : IsGi
         (false_from_ne_true _ (λ h. false≢true (sym (ap not is.1) ∙ (and_parts (is_resolved it.phase) (not it.released) h).1)))
         (timeless it.worker s.clock it (booked.timed k is.0))
 
-    of_sleeper : (k : ℕ) → is_open (seat_of s (request_of s k).worker).phase ≡ true → sleeps c x (request_of s k).worker ≡ true → is_request_unfinished c x.world k (request_of s k) ≡ false
-    of_sleeper k opened asleep =
-        let it = request_of s k in
-        let i = it.worker in
-        let clear = submitted c x placed held booked settled all i opened asleep in
-        let done = entered c x placed held booked settled all i opened asleep k refl in
-        eight _ _ _ _ _ _ _ _
-        (ungranted k opened asleep)
-        (stuck (is_queued it.phase) it.cancelled (nat_lt (own_of x.world i).in_flight (ring_size c)) (λ queued. full (own_of x.world i) (ring_size c) (λ none. no_list k (own_of x.world i).ready none ((booked.listed k).queued queued)) clear.unstaged))
-        done.0 done.1
-        (false_from_ne_true _ (λ h. no_list k (own_of x.world i).unenrolled clear.unenrolled ((booked.listed k).unenrolled (enroll_case (is_resolved it.phase) it.cancelled (is_none it.timer) (is_none it.operation.deadline) h))))
-        (false_from_ne_true _ (λ h. no_list k (own_of x.world i).cancels clear.cancels ((booked.listed k).cancels h)))
-        (false_from_ne_true _ (λ h. no_list k (own_of x.world i).ended (told_open c x placed held booked settled all i opened asleep).ended ((booked.listed k).over h)))
-        (none_due i s.clock s.requests (both_ahead c x placed held booked settled all i opened asleep).0 k)
-
-    request_done : (k : ℕ) → is_request_unfinished c x.world k (request_of s k) ≡ false
-    request_done k = elim (down c x held all (request_of s k).worker) [
+    request_finished : (k : ℕ) → is_request_unfinished c x.world k (request_of s k) ≡ false
+    request_finished k = elim (down c x held all (request_of s k).worker) [
       | inl over ↦ of_ended k over
-      | inr asleep ↦ of_sleeper k asleep.0 asleep.1
+      | inr asleep ↦ request_done c x placed given held booked settled permitted k (parked (request_of s k).worker asleep.0 asleep.1)
     ]
 
     -- A TASK
@@ -151,8 +107,8 @@ module _ (c : Configuration) (x : Playing) (placed : IsPlaced c x) (given : IsGi
     -- who waits for a request waits for one that isn't over
     no_request_came : (t k : ℕ) → WaitsFor s t (waiting.Request k) → is_resolved (request_of s k).phase ≡ true → ⊥
     no_request_came t k waits over =
-        let within : (request_of s k).worker < length x.desks = omega (arith, booked.requests k (given.awaits t k waits).there, placed.laid.desks) in
-        not_so (message.ForwardRequest k) (request_of s k).worker t (request_of s k).forwarding (given.awaits t k waits).takes_mail within (λ is. awaited.woken t k waits is over) (booked.sent k)
+        let within : (request_of s k).worker < length x.desks = omega (arith, booked.requests k (given.waits.requests t k waits).there, placed.laid.desks) in
+        not_so (message.ForwardRequest k) (request_of s k).worker t (request_of s k).forwarding (given.waits.requests t k waits).takes_mail within (λ is. awaited.woken t k waits is over) (booked.sent k)
         (λ is. elim (awaited.answered t k waits is over) [
           | inl result ↦ no_number k _ (told c x placed held booked settled all (request_of s k).worker within).results result
           | inr sent ↦ no_news _ t (Heard.Request k) sent.1
@@ -160,8 +116,8 @@ module _ (c : Configuration) (x : Playing) (placed : IsPlaced c x) (given : IsGi
 
     no_sleeper_came : (t z : ℕ) → WaitsFor s t (waiting.Timer z) → (sleeper_of s z).fired ≡ true → ⊥
     no_sleeper_came t z waits over =
-        let within : (sleeper_of s z).worker < length x.desks = omega (arith, booked.sleepers z (given.sleeps t z waits).there, placed.laid.desks) in
-        not_so (message.ForwardTimer z) (sleeper_of s z).worker t (sleeper_of s z).forwarding (given.sleeps t z waits).takes_mail within (λ is. awaited.fired t z waits is over) (booked.sent_too z)
+        let within : (sleeper_of s z).worker < length x.desks = omega (arith, booked.sleepers z (given.waits.sleepers t z waits).there, placed.laid.desks) in
+        not_so (message.ForwardTimer z) (sleeper_of s z).worker t (sleeper_of s z).forwarding (given.waits.sleepers t z waits).takes_mail within (λ is. awaited.fired t z waits is over) (booked.sent_too z)
         (λ is. elim (awaited.alarmed t z waits is over) [
           | inl completion ↦ no_number z _ (told c x placed held booked settled all (sleeper_of s z).worker within).completions completion
           | inr sent ↦ no_news _ t (Heard.Timer z) sent.1
@@ -179,23 +135,21 @@ module _ (c : Configuration) (x : Playing) (placed : IsPlaced c x) (given : IsGi
     task_finished t = waiting_done s (task_of s t) (still t) (fresh t) (not_come t (task_of s t).waiting refl)
 
     -- A WORKER that is open has a root that isn't over
-    need_not_close : (i : ℕ) → has_to_close x.world i (seat_of s i) ≡ false
-    need_not_close i = false_from_ne_true _ (λ h.
-        let both = and_parts (is_open (seat_of s i).phase) (is_done (task_of s (own_of x.world i).root).phase) h in
-        elim (down c x held all i) [
-          | inl over ↦ not_both (seat_of s i).phase both.0 over
-          | inr asleep ↦ true≢false (sym both.1 ∙ given.roots i asleep.0 (held.abed i asleep.1))
-        ])
+    closed_by : (i : ℕ) → has_to_close x.world i (seat_of s i) ≡ false
+    closed_by i = elim (down c x held all i) [
+      | inl over ↦ false_from_ne_true _ (λ h. not_both (seat_of s i).phase (and_parts (is_open (seat_of s i).phase) (is_done (task_of s (own_of x.world i).root).phase) h).0 over)
+      | inr asleep ↦ need_not_close c x placed given held booked settled permitted i (parked i asleep.0 asleep.1)
+    ]
 
     nothing : NothingUnfinished c x.world
     nothing =
         record {
           tasks = task_finished;
           messages = rested.messages;
-          requests = request_done;
+          requests = request_finished;
           sleepers = sleeper_done c x placed held booked settled all;
           cancels = cancels_done c x placed held booked settled all;
-          workers = need_not_close;
+          workers = closed_by;
         }
 
   -- a closing worker that sleeps waits on its ring, with a request that isn't over

@@ -1,11 +1,11 @@
 -- States to look at: workers that sleep, on a ring or on wake words, with one thing changed.
 use Rattle.std.specs.Prelude.{true, [], ◌∷◌, Some, slice_set}
 use Rattle.exec_outcomes.specs.declared.outcome.Outcome.TheVariants.{Success}
-use Rattle.exec_machine.specs.{declared.state.{Forwarding.TheVariants.Applied, Request.Request}, Tests.set_request, World.{World, no_open, task_of}}
+use Rattle.exec_machine.specs.{declared.state.{Forwarding.TheVariants.Applied, Request.Request, Sleeper.Sleeper}, Tests.set_request, World.{Task, World, no_open, task_of}}
 use Rattle.exec_machine.specs.declared.state.RequestPhase.TheVariants as phase
 use Rattle.exec_machine.specs.declared.state.Waiting.TheVariants as waiting
 use Rattle.exec_machine.specs.declared.state.WorkerPhase.TheVariants.{Ended}
-use Rattle.exec_moves.specs.{MailLogs.a_write, Plays.{Playing, desk_of}, State.{Desk, no_word}, Thing.set_word}
+use Rattle.exec_moves.specs.{declared.place.Place.{Place}, MailLogs.a_write, Plays.{Playing, desk_of}, State.{Desk, no_queue, no_word}, Thing.{set_queue, set_word}}
 use Rattle.exec_books.specs.Examples.{its_request, its_seat, one_asleep, with_seat}
 use Rattle.exec_rest.specs.Examples.{rested, two_waiting}
 
@@ -23,6 +23,23 @@ second = desk_of two_waiting.config rested 1
 
 abbrev pub with_second : Desk → Playing
 with_second d = record rested { desks = slice_set rested.desks 1 d }
+
+-- Worker zero is at this place.
+abbrev pub acting : Place → Playing
+acting p = let first = desk_of two_waiting.config rested 0 in record rested { desks = slice_set rested.desks 0 (record first { place = p }) }
+
+-- The root of worker 1 is another, a sleeper is of it, or something lies in its run queue.
+abbrev pub with_root : Task → Playing
+with_root it = let s = rested.world.common in record rested { world = record rested.world { common = record s { tasks = slice_set s.tasks 1 it } } }
+
+abbrev pub its_root : Task
+its_root = task_of rested.world.common 1
+
+abbrev pub with_sleeper : Sleeper → Playing
+with_sleeper z = record rested { world = record rested.world { common = record rested.world.common { sleepers = z ∷ [] } } }
+
+abbrev pub with_queue : Playing
+with_queue = record rested { things = set_queue 1 rested.things (record no_queue { values = 2 ∷ [] }) }
 
 -- A write of worker 1 is the first at the gate of its open, and has the permit: nobody signals that; or its wake word has a latch.
 abbrev pub with_permit : Playing

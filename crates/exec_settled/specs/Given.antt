@@ -45,6 +45,11 @@ pub record IsSleptBy (s : Common) (t z : ℕ) : Type 0 where
   pub kept : (sleeper_of s z).removed ≡ false
   pub takes_mail : (seat_of s (sleeper_of s z).worker).mailbox_closed ≡ false
 
+-- Nobody waits in vain: what a task waits for is there, says so, and is held, and its worker takes the messages about it.
+pub record NobodyWaitsInVain (s : Common) : Type 0 where
+  pub requests : (t k : ℕ) → WaitsFor s t (waiting.Request k) → IsWaitedFor s t k
+  pub sleepers : (t z : ℕ) → WaitsFor s t (waiting.Timer z) → IsSleptBy s t z
+
 module _ (c : Configuration) (x : Playing) where
   abbrev s : Common
   s = x.world.common
@@ -68,8 +73,7 @@ module _ (c : Configuration) (x : Playing) where
     pub passes : (i file : ℕ) → passes_at (place_at c x i) ≡ Some file → (k : ℕ) × (slice_get (gate_of x.things file) 0 ≡ Some k) × ((request_of s k).worker ≡ i) × (gives_up (request_of s k) ≡ true)
     -- what waits for a permit is a durable request of an open that is there
     pub gated : (k : ℕ) → is_gated (request_of s k).phase ≡ true → (is_durable (request_of s k).operation.kind ≡ true) × ((request_of s k).operation.target < length s.opens)
-    pub awaits : (t k : ℕ) → WaitsFor s t (waiting.Request k) → IsWaitedFor s t k
-    pub sleeps : (t z : ℕ) → WaitsFor s t (waiting.Timer z) → IsSleptBy s t z
+    pub waits : NobodyWaitsInVain s
     -- a request that isn't over stands in a slot of its worker, and a sleeper that stands in one hasn't fired
     pub slots : (k : ℕ) → is_resolved (request_of s k).phase ≡ false → has_number k (numbers_in (desk_of c x (request_of s k).worker).requests.held) ≡ true
     pub beds : (i z : ℕ) → is_in_slots z (desk_of c x i).timers ≡ true → (sleeper_of s z).fired ≡ false

@@ -2,9 +2,10 @@
 
 ghost use Rattle.std.specs.Prelude.{◌≡◌, true, false, [], ◌∷◌, Some, None};
 ghost use Rattle.exec_outcomes.specs.declared.outcome.Outcome.TheVariants.{Success};
-ghost use Rattle.exec_machine.specs.Progress.{IsRightlyAsleep};
-ghost use Rattle.exec_machine.specs.declared.state.RequestPhase.TheVariants.{Queued, Resolved, Staged};
-ghost use Rattle.exec_moves.specs.declared.handing.{AfterSignal.{AfterSignal}, InSignal.TheVariants.{SetLatch}};
+ghost use Rattle.exec_machine.specs.{Deadlines.new_sleeper, Progress.IsRightlyAsleep};
+ghost use Rattle.exec_machine.specs.declared.state.RequestPhase.TheVariants.{Gated, Queued, Resolved, Staged};
+ghost use Rattle.exec_machine.specs.declared.state.TaskPhase.TheVariants as task;
+ghost use Rattle.exec_moves.specs.declared.handing.{AfterSignal.{AfterSignal}, InSignal.TheVariants.{Raise, SetLatch}};
 ghost use Rattle.exec_moves.specs.declared.idling.AfterWait.{AfterWait, TheVariants.Begin};
 ghost use Rattle.exec_moves.specs.declared.idling.{InRingWait.InRingWait, InWordWait.InWordWait};
 ghost use Rattle.exec_moves.specs.declared.idling.InRingWait.TheVariants as ring;
@@ -14,13 +15,13 @@ ghost use Rattle.exec_moves.specs.declared.place.AfterService.TheVariants as bac
 ghost use Rattle.exec_moves.specs.declared.place.InService.TheVariants as service;
 ghost use Rattle.exec_moves.specs.declared.place.Place.TheVariants as at;
 ghost use Rattle.exec_books.specs.Examples.{one_send, its_own, its_request, with_own};
-ghost use Rattle.exec_rest.specs.Examples.{rested, two_waiting};
-ghost use Rattle.exec_settled.specs.{Awaited.IsAwaited, Given.{IsGiven, passes_at}};
+ghost use Rattle.exec_rest.specs.Examples.{rested, two_waiting, with_a_latch, with_a_message, with_a_runnable};
+ghost use Rattle.exec_settled.specs.{Awaited.IsAwaited, Given.{IsGiven, NobodyWaitsInVain, passes_at}, Parked.{IsBeingWoken, IsParked, NobodySleepsOnWork, NoneIsForgotten}};
 ghost use Rattle.exec_settled.specs.Permits.{IsPermitted, hands_to, is_past};
 ghost use Rattle.exec_rest.specs.AtRest.{stays_closing};
 ghost use Rattle.exec_settled.specs.Settled.{HaveLetGo, IsSettled, ends_ring_wait};
-ghost use Rattle.exec_settled.specs.Examples.{ended_with, on_ring, second, with_second};
-ghost use Rattle.exec_settled.specs.Examples.{waits_elsewhere, waits_here, with_permit, with_permit_told};
+ghost use Rattle.exec_settled.specs.Examples.{acting, ended_with, its_root, on_ring, second, with_second, with_sleeper};
+ghost use Rattle.exec_settled.specs.Examples.{waits_elsewhere, waits_for, waits_here, with_permit, with_permit_told, with_queue, with_root};
 
 /// What is known of a worker by its place. In the service of a turn it has passed the gate of open 0 once it is to look
 /// at gate 1, not before; in any other service it hasn't, since another turn comes then, nor where a turn begins. Who
@@ -50,6 +51,8 @@ pub fn two_at_rest()
     ensures permitted { IsPermitted two_waiting.config rested }
     ensures awaited { IsAwaited two_waiting.config rested }
     ensures asleep { IsRightlyAsleep two_waiting.config rested.world }
+    ensures parked { NobodySleepsOnWork two_waiting.config rested }
+    ensures unforgotten { NoneIsForgotten two_waiting.config rested }
 {}
 
 /// Workers that sleep with something left to do are refused: one that has a task to wake; one that waits as one that
@@ -77,6 +80,39 @@ pub fn a_permit_asleep()
 pub fn a_wait_for_what_came()
     ensures here { IsAwaited two_waiting.config waits_here → ⊥ }
     ensures elsewhere { IsAwaited two_waiting.config waits_elsewhere → ⊥ }
+{}
+
+/// Two workers sleep, and nobody wakes one of them next. Refused is any state of theirs with something left to do: worker 1
+/// has a message; it was signalled; it has the permit of an open, and wasn't granted it; its root waits for a request that is
+/// over, is to be polled, was woken since it was polled last, or is over; the moment of a sleeper of its own has come; or
+/// something lies in its run queue, or in the global one. Where worker zero signals it next, ends its wait, or signals it since
+/// it passed a permit on, worker 1 is being woken.
+pub fn a_wake_left()
+    ensures left { IsParked two_waiting.config rested 1 }
+    ensures signalled { (b : AfterSignal) → IsBeingWoken two_waiting.config (acting (at.Signal SetLatch 1 b)) 1 }
+    ensures raised { (b : AfterSignal) → IsBeingWoken two_waiting.config (acting (at.Signal (Raise false) 1 b)) 1 }
+    ensures handed { (b : AfterPermit) (v : Service) → IsBeingWoken two_waiting.config (acting (at.Service (service.Signal 1 b) v)) 1 }
+    ensures unread { NobodySleepsOnWork two_waiting.config with_a_message → ⊥ }
+    ensures unrung { NobodySleepsOnWork two_waiting.config with_a_latch → ⊥ }
+    ensures ungranted { NobodySleepsOnWork two_waiting.config with_permit → ⊥ }
+    ensures unheard { NobodySleepsOnWork two_waiting.config waits_here → ⊥ }
+    ensures unpolled { NobodySleepsOnWork two_waiting.config (with_root (record its_root { phase = task.Queued })) → ⊥ }
+    ensures unseen { NobodySleepsOnWork two_waiting.config (with_root (record its_root { fresh = false })) → ⊥ }
+    ensures unclosed { NobodySleepsOnWork two_waiting.config (with_root (record its_root { phase = task.Done })) → ⊥ }
+    ensures unfired { NobodySleepsOnWork two_waiting.config (with_sleeper (new_sleeper 0 1 1)) → ⊥ }
+    ensures unpicked { NobodySleepsOnWork two_waiting.config with_queue → ⊥ }
+    ensures uncovered { NobodySleepsOnWork two_waiting.config with_a_runnable → ⊥ }
+{}
+
+/// A task waits for a request that says so, and that it holds. Refused is a request that tells another task, or one that nobody
+/// holds. And one that is queued is forgotten where it stands in no list, and
+/// one that waits for a permit where it stands at no gate.
+pub fn a_wait()
+    ensures kept { NobodyWaitsInVain (waits_for (record its_request { worker = 1; waiter = Some 1 })).world.common }
+    ensures of_another { NobodyWaitsInVain (waits_for (record its_request { worker = 1 })).world.common → ⊥ }
+    ensures unheld { NobodyWaitsInVain (waits_for (record its_request { worker = 1; waiter = Some 1; observed = false })).world.common → ⊥ }
+    ensures off_the_gate { NoneIsForgotten two_waiting.config (waits_for (record its_request { worker = 1; waiter = Some 1; phase = Gated })) → ⊥ }
+    ensures in_no_list { NoneIsForgotten two_waiting.config (waits_for (record its_request { worker = 1; waiter = Some 1; phase = Queued })) → ⊥ }
 {}
 
 /// A worker that has ended has let go of its request where that is over and released. It is refused with one that is over,

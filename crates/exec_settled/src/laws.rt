@@ -3,8 +3,8 @@
 ghost use Rattle.exec_machine.specs.{declared.{config.Configuration.Configuration, step.Action.Action}, Progress.{IsRightlyAsleep, Plan}, Run.Follows, World.World};
 ghost use Rattle.exec_moves.specs.Plays.{Playing, by_step, first_playing};
 ghost use Rattle.exec_books.specs.Booked.{IsBooked};
-ghost use Rattle.exec_rest.specs.{AtRest.{IsPlaced, RestsWell}, Rested.IsRestful};
-ghost use Rattle.exec_settled.specs.{Awaited.IsAwaited, Given.IsGiven, Permits.IsPermitted, Settled.{HaveLetGo, IsSettled}};
+ghost use Rattle.exec_rest.specs.{AtRest.{AreBare, AreFresh, IsPlaced, RestsWell}, Posted.IsPosted, Rested.IsRestful};
+ghost use Rattle.exec_settled.specs.{Awaited.IsAwaited, Given.IsGiven, Parked.{NobodySleepsOnWork, NoneIsForgotten}, Permits.IsPermitted, Settled.{HaveLetGo, IsSettled}};
 
 /// What is settled stays so in each step that follows in the machine: what a worker has done before it sleeps, permits that
 /// are passed on, and who is to be told of what has come.
@@ -18,6 +18,16 @@ pub fn what_is_settled_stays_so()
         Follows c x.world a it.0.said it.1 → IsGiven c (by_step c x a).next → IsPermitted c x → IsPermitted c (by_step c x a).next }
     ensures awaited { (c : Configuration) (x : Playing) → IsPlaced c x → IsGiven c x → (a : Action) → let it = (by_step c x a).told in
         Follows c x.world a it.0.said it.1 → IsGiven c (by_step c x a).next → IsAwaited c x → IsAwaited c (by_step c x a).next }
+{}
+
+/// Whoever sleeps has nothing to do, whatever the others do meanwhile, or somebody's next step wakes it. While something lies
+/// in the global queue somebody looks for a worker, or one of the pool is awake or is woken next. And no request is forgotten,
+/// whether anybody sleeps or not.
+pub fn nobody_sleeps_on_work()
+    ensures parked { (c : Configuration) (x : Playing) → IsPlaced c x → IsGiven c x → IsRestful c x → IsBooked x.world → IsSettled c x →
+        IsPermitted c x → AreBare c x → IsPosted c x → AreFresh x → IsAwaited c x → NobodySleepsOnWork c x }
+    ensures unforgotten { (c : Configuration) (x : Playing) → IsGiven c x → IsBooked x.world → IsPermitted c x → IsAwaited c x →
+        NoneIsForgotten c x }
 {}
 
 /// Where all workers sleep and no call is half done nothing is unfinished; and wherever a closing worker sleeps, a request of

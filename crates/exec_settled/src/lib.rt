@@ -1,4 +1,5 @@
-//! Nothing is unfinished where all workers sleep, and a closing worker sleeps only while a request of its own isn't over.
+//! Whoever sleeps has nothing to do, whatever others do, or is woken next; no request is forgotten; nothing is unfinished where
+//! all workers sleep; and a closing worker sleeps only while a request of its own isn't over (`specs/Parked.antt`).
 //!
 //! Beside what keeps wakes and messages from being lost (`exec_rest`) stands here, by the moves, what a worker has found
 //! done before it sleeps, and has left so (`specs/Settled.antt`): nothing waits for its callbacks or its service, the kernel

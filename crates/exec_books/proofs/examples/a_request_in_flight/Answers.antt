@@ -2,7 +2,7 @@ use Rattle.std.proofs.Common.{◌≡◌, ℕ, zero, suc, ◌<◌, ◌==◌, ◌+
 use Rattle.std.proofs.lemmas.Bool.{true≢false, false≢true, ne_eqb}
 use Rattle.exec_machine.specs.{declared.state.{Forwarding.TheVariants.{Unsent}, Request.Request}, Deadlines.{is_after, next_due, rest_until}, Tests.{has_ended, is_asleep, is_awake, is_of_file, is_resolved}, World.{no_request, own_of, request_of, seat_of, sleeper_of}}
 use Rattle.exec_machine.specs.declared.state.Rest.TheVariants as rest
-use Rattle.exec_books.specs.{Booked.{flying_of, unreleased_of}, Examples.{its_own, its_request, its_seat, sending}, Listed.{AreListed, is_in}}
+use Rattle.exec_books.specs.{Booked.{AreLinedUp, flying_of, unreleased_of}, Examples.{its_own, its_request, its_seat, sending}, Listed.{AreListed, is_in}}
 use Rattle.exec_books.proofs.Listed.{no_listed}
 use Rattle.exec_books.proofs.examples.a_request_in_flight.Goals as goal
 
@@ -18,6 +18,10 @@ listed : AreListed sending
 listed zero =
     record { queued = λ h. absurd (false≢true h); landed_in = λ h. absurd (false≢true h); unenrolled = λ h. absurd (true≢false h); cancels = λ h. absurd (false≢true h); over = λ h. absurd (false≢true h) }
 listed (suc k) = no_listed its_own [] (suc k)
+
+lined_up : AreLinedUp sending
+lined_up zero = record { durable = λ h. absurd (false≢true h); waits = λ h there. absurd (false≢true h); has = λ h gated over there. absurd (false≢true h) }
+lined_up (suc k) = record { durable = λ h. absurd (false≢true h); waits = λ h there. absurd (false≢true h); has = λ h gated over there. absurd (false≢true h) }
 
 -- two that aren't computed yet would be compared step by step
 counted : its_own.unreleased ≡ unreleased_of 0 sending.common.requests
@@ -39,6 +43,7 @@ returns-clause-booked c =
     let none : length s.sleepers ≡ 0 = refl in
     record {
       listed = listed;
+      lined_up = lined_up;
       timed = each_request (λ r. is_resolved r.phase ≡ true → r.timer ≡ None) (λ h. absurd (false≢true h)) (λ h. refl);
       undated = each_request (λ r. is_of_file r.operation.kind ≡ true → (r.operation.deadline ≡ None) × (r.timer ≡ None)) (λ h. absurd (false≢true h)) (λ h. absurd (false≢true h));
       let_go = each_request (λ r. r.released ≡ true → is_resolved r.phase ≡ true) (λ h. absurd (false≢true h)) (λ h. refl);

@@ -4,8 +4,10 @@ use Rattle.std.specs.Prelude.{slice_get}
 use Rattle.exec_machine.specs.{declared.state.{Next.Next, Waiting.Waiting}, Progress.{has_to_close, is_cancel_untold, is_task_unfinished, sleeps_for_nothing}, Tests.{is_closing, is_done, is_open}, World.{Common, open_of, own_of, seat_of, task_of}}
 use Rattle.exec_machine.specs.declared.state.Waiting.TheVariants as waiting
 use Rattle.exec_moves.specs.{Plays.desk_of, Seen.{next_at, polls_at}, Slots.is_in_slots, State.gate_of}
-use Rattle.exec_rest.specs.{Examples.{rested, two_waiting}, Places.{is_abed, is_to_sleep_on_ring}, Rested.place_at}
-use Rattle.exec_settled.specs.{Given.{IsGiven, WaitsFor, ends_in_search, in_line, passes_at}, Settled.{HasSubmitted, HasTold, ends_ring_wait}}
+use Rattle.exec_rest.specs.{Examples.{rested, two_waiting}, Places.{is_abed, is_to_sleep_on_ring}, Rested.{is_latched, place_at}}
+use Rattle.exec_rest.proofs.TwoAsleep.{at_rest, queue}
+use Rattle.exec_books.specs.Listed.{AreListed}
+use Rattle.exec_settled.specs.{Awaited.IsAwaited, Permits.IsPermitted, Given.{IsGiven, WaitsFor, ends_in_search, in_line, passes_at}, Parked.HasNothingToDo, Settled.{HasSubmitted, HasTold, ends_ring_wait}}
 use Rattle.exec_rest.specs.AtRest.{stays_closing}
 use Rattle.exec_settled.proofs.{AwaitedTasks.is_for_thing, TwoAsleep.{each, is_at, not_at}}
 use Rattle.exec_settled.proofs.examples.two_at_rest.Goals as goal
@@ -35,8 +37,7 @@ given =
       holder = λ file. holder file ∙ sym (first file);
       passes = λ i file h. absurd (none-some file (sym (is_at passes_at None refl refl i) ∙ h));
       gated = λ k h. absurd (false≢true h);
-      awaits = λ t k. nobody t (waiting.Request k) refl;
-      sleeps = λ t z. nobody t (waiting.Timer z) refl;
+      waits = record { requests = λ t k. nobody t (waiting.Request k) refl; sleepers = λ t z. nobody t (waiting.Timer z) refl };
       slots = λ k h. absurd (true≢false h);
       beds = λ i z h. absurd (false≢true (sym (each (λ i. is_in_slots z (desk_of two_waiting.config rested i).timers ≡ false) refl refl (λ i. refl) i) ∙ h));
       back = is_at ends_in_search false refl refl;
@@ -52,6 +53,43 @@ done =
     (record { wakes = refl; outputs = refl; ended = refl; completions = refl; results = refl }, record { unenrolled = refl; cancels = refl; unstaged = refl })
     (λ i. (record { wakes = refl; outputs = refl; ended = refl; completions = refl; results = refl }, record { unenrolled = refl; cancels = refl; unstaged = refl }))
 
+permitted : IsPermitted two_waiting.config rested
+permitted = record { passed = λ file k there gives. absurd (none-some k there); granted = λ k h holds opened. absurd (false≢true h) }
+
+awaited : IsAwaited two_waiting.config rested
+awaited =
+    record {
+      here = λ t k. nobody t (waiting.Request k) refl;
+      woken = λ t k. nobody t (waiting.Request k) refl;
+      fired = λ t z. nobody t (waiting.Timer z) refl;
+      answered = λ t k. nobody t (waiting.Request k) refl;
+      alarmed = λ t z. nobody t (waiting.Timer z) refl;
+    }
+
+listed : AreListed rested.world
+listed k =
+    record {
+      queued = λ h. absurd (false≢true h);
+      landed_in = λ h. absurd (false≢true h);
+      unenrolled = λ h. absurd (true≢false h);
+      cancels = λ h. absurd (false≢true h);
+      over = λ h. absurd (false≢true h);
+    }
+
+idle : (i : ℕ) → HasNothingToDo two_waiting.config rested i
+idle i =
+    record {
+      unsignalled = each (λ i. is_latched two_waiting.config rested i ≡ false) refl refl (λ i. refl) i;
+      messages = each (λ i. (seat_of s i).inbox ≡ []) refl refl (λ i. refl) i;
+      queue = queue i;
+      root = λ t it there home. (at_rest.tasks t it there, at_rest.woken t it there);
+      stays = each (λ i. has_to_close rested.world i (seat_of s i) ≡ false) refl refl (λ i. refl) i;
+      requests = λ k own. refl;
+      sleepers = λ z own. refl;
+      came = λ t k waits. nobody t (waiting.Request k) refl waits;
+      fired = λ t z waits. nobody t (waiting.Timer z) refl waits;
+    }
+
 pub returns : goal.returns
 returns c =
     record {
@@ -66,15 +104,8 @@ returns c =
             entered_then = λ i asleep. not_at ends_ring_wait refl refl i;
             landed = λ i asleep. not_at ends_ring_wait refl refl i;
           };
-      permitted = record { passed = λ file k there gives. absurd (none-some k there); granted = λ k h holds opened. absurd (false≢true h) };
-      awaited =
-          record {
-            here = λ t k. nobody t (waiting.Request k) refl;
-            woken = λ t k. nobody t (waiting.Request k) refl;
-            fired = λ t z. nobody t (waiting.Timer z) refl;
-            answered = λ t k. nobody t (waiting.Request k) refl;
-            alarmed = λ t z. nobody t (waiting.Timer z) refl;
-          };
+      permitted = permitted;
+      awaited = awaited;
       asleep =
           record {
             asleep = λ all. record {
@@ -87,4 +118,11 @@ returns c =
             };
             closing = each (λ i. sleeps_for_nothing s i (seat_of s i) ≡ false) refl refl (λ i. refl);
           };
+      parked =
+          record {
+            parked = λ i it. idle i;
+            entered = λ i asleep. record { requests = λ k own. (refl, refl); cancels = each (λ i. is_cancel_untold s (own_of rested.world i) ≡ false) refl refl (λ i. refl) i };
+            pool = λ opened some. absurd (some refl);
+          };
+      unforgotten = record { listed = listed; gated = λ k h. absurd (false≢true h); permitted = permitted; waits = given.waits; awaited = awaited };
     }

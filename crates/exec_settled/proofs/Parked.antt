@@ -1,0 +1,230 @@
+-- Who sleeps has nothing to do, or somebody wakes it next: by what each state has, whatever others do.
+use Rattle.std.proofs.Common.{◌≡◌, ◌≢◌, ℕ, ◌&&◌, ◌||◌, Bool, true, false, not, List, [], Option, Some, ◌∙◌, refl, sym, ap, subst, arith, inl, inr}
+use Rattle.std.proofs.lemmas.Bool.{true≢false, false≢true, and_parts, cases_Bool, eqb-true, false_from_ne_true, or_cases}
+use Rattle.std.specs.Prelude.{nat_lt, slice_get}
+use Rattle.std.specs.List.{list_any}
+use Rattle.exec_machine.specs.{declared.{config.Configuration.Configuration, state.{Forwarding.Forwarding, MailMessage.MailMessage, Request.Request, TaskPhase.TaskPhase}}, Progress.{has_to_close, is_request_unfinished, is_runnable}, Ranges.ring_size, Same.{is_none, is_number, same_message}, Tests.{is_done, is_empty, is_gated, is_open, is_queued, is_ready, is_resolved}, World.{Common, Own as Books, Task, open_of, own_of, request_of, seat_of, sleeper_of, task_of}}
+use Rattle.exec_machine.specs.declared.state.Forwarding.TheVariants as forwarding
+use Rattle.exec_machine.specs.declared.state.MailMessage.TheVariants as message
+use Rattle.exec_machine.specs.declared.state.Waiting.TheVariants as waiting
+use Rattle.exec_moves.specs.{declared.{handing.{AfterCallbacks.AfterCallbacks, Heard.Heard}, place.{InCallbacks.InCallbacks, Place.Place}}, Plays.{Playing, desk_of}, Poll.is_noted, State.{inbox_of, queue_of}, Told.has_number}
+use Rattle.exec_books.specs.{Booked.{IsBooked, IsUnderWay}, Listed.is_in}
+use Rattle.exec_rest.specs.{AtRest.{AreBare, AreFresh, IsPlaced, is_unnoted}, Places.is_abed, Posted.IsPosted, Rested.{IsRestful, has_bit, is_in_pool, is_latched, place_at, sleeps}}
+use Rattle.exec_rest.proofs.Rest.{Abed, abed, none_or_some}
+use Rattle.exec_settled.specs.{Awaited.{IsAwaited, IsToBeWoken, IsToHear}, Given.{IsGiven, WaitsFor}, Parked.{HasNothingToDo, IsBeingWoken, IsParked, IsUp, NobodySleepsOnWork, NoneIsForgotten}, Permits.{IsPermitted, is_past}, Settled.{HasSubmitted, HasTold, IsSettled}}
+use Rattle.exec_settled.proofs.{Resting.{abed_past, both_ahead, cancels_told, entered, none_fires, submitted, tests, told_open}, Undone.{eight, enroll_case, none_due}}
+
+-- a task that is to be polled, or was woken in a poll
+pub runs_on : (p : TaskPhase) → (is_ready p || is_noted p) ≡ true → is_runnable p ≡ true
+runs_on = grind arith
+
+over_or_fresh : (p : TaskPhase) (fresh : Bool) → is_runnable p ≡ false → (is_unnoted p ≡ true → fresh ≡ true) → (is_done p || fresh) ≡ true
+over_or_fresh = grind arith
+
+-- a number is in no empty list
+pub no_number : (k : ℕ) (ns : List ℕ) → ns ≡ [] → has_number k ns ≡ true → ⊥
+no_number k ns none h = false≢true (subst (λ l. has_number k l ≡ true) none h)
+
+number_is : (k : ℕ) (o : Option ℕ) → is_number k o ≡ true → o ≡ Some k
+number_is = grind (arith, false≢true, eqb-true)
+
+no_list : (k : ℕ) (list : List ℕ) → list ≡ [] → is_in k list ≡ true → ⊥
+no_list k list none h = false≢true (subst (λ l. is_in k l ≡ true) none h)
+
+stuck : (q cancelled n : Bool) → (q ≡ true → n ≡ false) → (q && not cancelled && n) ≡ false
+stuck = grind arith
+
+-- a request that is ready may be staged only where the ring has a place
+full : (me : Books) (n : ℕ) → me.ready ≢ [] → (not (is_empty me.ready) && nat_lt me.in_flight n) ≡ false → nat_lt me.in_flight n ≡ false
+full = grind arith
+
+abed_wakes_none : (p : Place) → is_abed p ≡ true → (t : ℕ) (of : Heard) (n : AfterCallbacks) → p ≡ Place.Callbacks (InCallbacks.WakeWaiter t of) n → ⊥
+abed_wakes_none p is t of n here = false≢true (sym (ap is_abed here) ∙ is)
+
+module _ (c : Configuration) (x : Playing) (placed : IsPlaced c x) (given : IsGiven c x) (held : IsRestful c x) (booked : IsBooked x.world) (settled : IsSettled c x) (permitted : IsPermitted c x) where
+  abbrev s : Common
+  s = x.world.common
+
+  -- who was signalled has its wait ended by somebody
+  latch_raises : (i : ℕ) → sleeps c x i ≡ true → is_latched c x i ≡ true → IsBeingWoken c x i
+  latch_raises i asleep latched = elim (held.rung i asleep latched) [ inl raised ↦ IsBeingWoken.Raised true raised | inr raised ↦ IsBeingWoken.Raised false raised ]
+
+  module _ (i : ℕ) (it : IsParked c x i) where
+    unlatched : is_latched c x i ≡ true → ⊥
+    unlatched latched = it.left (latch_raises i it.asleep latched)
+
+    lies_abed : is_abed (place_at c x i) ≡ true
+    lies_abed = held.abed i it.asleep
+
+    its_submitted : HasSubmitted c (own_of x.world i)
+    its_submitted = submitted c x held booked settled i it.asleep placed it.opened
+
+    its_told : HasTold (own_of x.world i) (desk_of c x i)
+    its_told = told_open c x held booked settled i it.asleep placed it.opened
+
+    -- its root isn't over
+    pub need_not_close : has_to_close x.world i (seat_of s i) ≡ false
+    need_not_close = false_from_ne_true _ (λ h. true≢false (sym (and_parts (is_open (seat_of s i).phase) (is_done (task_of s (own_of x.world i).root).phase) h).1 ∙ given.roots i it.opened lies_abed))
+
+  -- A REQUEST of such a worker
+
+  module _ (k : ℕ) (parked : IsParked c x (request_of s k).worker) where
+    abbrev it : Request
+    it = request_of s k
+
+    abbrev me : Books
+    me = own_of x.world it.worker
+
+    -- its permit was granted
+    ungranted : (is_gated it.phase && is_number k (open_of s it.operation.target).holder) ≡ false
+    ungranted = false_from_ne_true _ (λ h.
+        let both = and_parts (is_gated it.phase) (is_number k (open_of s it.operation.target).holder) h in
+        let holds = number_is k (open_of s it.operation.target).holder both.1 in
+        elim (permitted.granted k both.0 holds parked.opened) [
+          | inl passes ↦ parked.left (IsBeingWoken.Passed k (refl, both.0, holds, passes))
+          | inr told ↦ elim told [
+            | inl handed ↦ parked.left (IsBeingWoken.Handed handed)
+            | inr looks ↦ elim (or_cases (is_latched c x it.worker) (not (is_past it.operation.target (place_at c x it.worker))) looks) [
+              | inl latched ↦ unlatched it.worker parked latched
+              | inr ahead ↦ false≢true (sym (ap not (abed_past it.operation.target (place_at c x it.worker) (lies_abed it.worker parked) (placed.stays it.worker parked.opened))) ∙ ahead)
+            ]
+          ]
+        ])
+
+    pub request_done : is_request_unfinished c x.world k it ≡ false
+    request_done =
+        let clear = its_submitted it.worker parked in
+        let done = entered c x held booked settled it.worker parked.asleep k refl in
+        eight _ _ _ _ _ _ _ _
+        ungranted
+        (stuck (is_queued it.phase) it.cancelled (nat_lt me.in_flight (ring_size c)) (λ queued. full me (ring_size c) (λ none. no_list k me.ready none ((booked.listed k).queued queued)) clear.unstaged))
+        done.0 done.1
+        (false_from_ne_true _ (λ h. no_list k me.unenrolled clear.unenrolled ((booked.listed k).unenrolled (enroll_case (is_resolved it.phase) it.cancelled (is_none it.timer) (is_none it.operation.deadline) h))))
+        (false_from_ne_true _ (λ h. no_list k me.cancels clear.cancels ((booked.listed k).cancels h)))
+        (false_from_ne_true _ (λ h. no_list k me.ended (its_told it.worker parked).ended ((booked.listed k).over h)))
+        (none_due it.worker s.clock s.requests (both_ahead c x held booked settled it.worker parked.asleep placed parked.opened).0 k)
+
+  -- ALL THAT IT MIGHT HAVE TO DO
+
+  module _ (bare : AreBare c x) (posted : IsPosted c x) (fresh : AreFresh x) (awaited : IsAwaited c x) where
+    module _ (i : ℕ) (parked : IsParked c x i) where
+      its_abed : Abed (place_at c x i)
+      its_abed = abed (place_at c x i) (lies_abed i parked) (placed.stays i parked.opened)
+
+      its_tested : ((desk_of c x i).root_ready ≡ false) × ((desk_of c x i).batch ≡ [])
+      its_tested = posted.tested i (tests c x held booked settled i parked.asleep placed parked.opened)
+
+      no_mail : inbox_of x.things i ≡ []
+      no_mail = elim (none_or_some (inbox_of x.things i)) [
+        | inl none ↦ none
+        | inr some ↦ elim (posted.posted i parked.asleep some) [
+          | inl latched ↦ absurd (unlatched i parked latched)
+          | inr signalled ↦ absurd (parked.left (IsBeingWoken.Signalled signalled))
+        ]
+      ]
+
+      no_message : (seat_of s i).inbox ≡ []
+      no_message = rw (placed.mail i, its_tested.1, no_mail) refl
+
+      no_runnable : (queue_of x.things i).values ≡ []
+      no_runnable = elim (cases_Bool (is_in_pool c x i)) [
+        | inl pool ↦ held.dried i pool its_abed.dry
+        | inr other ↦ (bare.bare i other).0
+      ]
+
+      root_rests : (t : ℕ) (it : Task) → slice_get s.tasks t ≡ Some it → it.home ≡ Some i → (is_runnable it.phase ≡ false) × ((is_done it.phase || it.fresh) ≡ true)
+      root_rests t it there home =
+          let idle = false_from_ne_true (is_runnable it.phase) (λ runs. true≢false (sym ((placed.roots t it i there home runs).2 (lies_abed i parked)) ∙ its_tested.0)) in
+          (idle, over_or_fresh it.phase it.fresh idle (fresh t it there))
+
+      -- who waits for what has come was told of it
+      woken : (t : ℕ) → IsToBeWoken c x i t → IsUp c x t
+      woken t (inl runs) = inl runs
+      woken t (inr wakes) = absurd (no_number t (desk_of c x i).wakes (its_told i parked).wakes wakes)
+
+      heard : (t : ℕ) (of : Heard) → IsToHear c x i t of → IsUp c x t
+      heard t of (inl wakes) = absurd (abed_wakes_none (place_at c x i) (lies_abed i parked) t of wakes.0 wakes.1)
+      heard t of (inr (inl ready)) = inl (runs_on (task_of s t).phase ready)
+      heard t of (inr (inr looks)) = inr looks
+
+      not_sent : (m : MailMessage) → (seat_of s i).mailbox_closed ≡ false → IsUnderWay m (seat_of s i) → ⊥
+      not_sent m takes (inl there) = false≢true (subst (λ l. list_any (same_message m) l ≡ true) no_message there)
+      not_sent m takes (inr shut) = true≢false (sym shut ∙ takes)
+
+      up_by : (m : MailMessage) (t : ℕ) (f : Forwarding) → (seat_of s i).mailbox_closed ≡ false → (f ≡ forwarding.Unsent → IsToBeWoken c x i t) → (f ≡ forwarding.Sent → IsUnderWay m (seat_of s i)) → (f ≡ forwarding.Applied → IsUp c x t) → IsUp c x t
+      up_by m t forwarding.Unsent takes wakes sent told = woken t (wakes refl)
+      up_by m t forwarding.Sent takes wakes sent told = absurd (not_sent m takes (sent refl))
+      up_by m t forwarding.Applied takes wakes sent told = told refl
+
+    request_came : (t k : ℕ) → IsParked c x (request_of s k).worker → WaitsFor s t (waiting.Request k) → is_resolved (request_of s k).phase ≡ true → IsUp c x t
+    request_came t k parked waits over =
+        let i = (request_of s k).worker in
+        up_by i parked (message.ForwardRequest k) t (request_of s k).forwarding (given.waits.requests t k waits).takes_mail (λ is. awaited.woken t k waits is over) (booked.sent k)
+        (λ is. elim (awaited.answered t k waits is over) [
+          | inl result ↦ absurd (no_number k _ (its_told i parked).results result)
+          | inr sent ↦ heard i parked t (Heard.Request k) sent.1
+        ])
+
+    sleeper_fired : (t z : ℕ) → IsParked c x (sleeper_of s z).worker → WaitsFor s t (waiting.Timer z) → (sleeper_of s z).fired ≡ true → IsUp c x t
+    sleeper_fired t z parked waits over =
+        let i = (sleeper_of s z).worker in
+        up_by i parked (message.ForwardTimer z) t (sleeper_of s z).forwarding (given.waits.sleepers t z waits).takes_mail (λ is. awaited.fired t z waits is over) (booked.sent_too z)
+        (λ is. elim (awaited.alarmed t z waits is over) [
+          | inl completion ↦ absurd (no_number z _ (its_told i parked).completions completion)
+          | inr sent ↦ heard i parked t (Heard.Timer z) sent.1
+        ])
+
+    nothing_to_do : (i : ℕ) → IsParked c x i → HasNothingToDo c x i
+    nothing_to_do i parked =
+        let of = λ (j : ℕ) (own : j ≡ i). subst (IsParked c x) (sym own) parked in
+        record {
+          unsignalled = false_from_ne_true (is_latched c x i) (unlatched i parked);
+          messages = no_message i parked;
+          queue = no_runnable i parked;
+          root = root_rests i parked;
+          stays = need_not_close i parked;
+          requests = λ k own. request_done k (of (request_of s k).worker own);
+          sleepers = none_fires c x held booked settled i parked.asleep placed parked.opened;
+          came = λ t k waits own over. request_came t k (of (request_of s k).worker own) waits over;
+          fired = λ t z waits own over. sleeper_fired t z (of (sleeper_of s z).worker own) waits over;
+        }
+
+    -- a worker of the pool that sleeps without its bit is woken next
+    without_bit : (i : ℕ) → is_in_pool c x i ≡ true → is_open (seat_of s i).phase ≡ true → sleeps c x i ≡ true → has_bit c x i ≡ false → IsBeingWoken c x i
+    without_bit i pool opened asleep out =
+        let it = abed (place_at c x i) (held.abed i asleep) (placed.stays i opened) in
+        elim (held.answered i pool it.published out) [
+          | inl h ↦ elim (or_cases _ (is_latched c x i) h) [
+            | inl goes ↦ absurd (true≢false (sym goes ∙ it.stays))
+            | inr latched ↦ latch_raises i asleep latched
+          ]
+          | inr signalled ↦ IsBeingWoken.Signalled signalled
+        ]
+
+    pub nobody_sleeps_on_work : NobodySleepsOnWork c x
+    nobody_sleeps_on_work =
+        record {
+          parked = nothing_to_do;
+          entered = λ i asleep. record { requests = entered c x held booked settled i asleep; cancels = cancels_told c x held booked settled i asleep };
+          pool = λ opened some. elim (held.covered some) [
+            | inl owed ↦ inl owed
+            | inr looks ↦ inr (
+              looks.0,
+              looks.1,
+              elim (cases_Bool (sleeps c x looks.0)) [
+                | inl asleep ↦ inr (without_bit looks.0 looks.1 (opened looks.0 looks.1) asleep (looks.2 (abed (place_at c x looks.0) (held.abed looks.0 asleep) (placed.stays looks.0 (opened looks.0 looks.1))).looked))
+                | inr awake ↦ inl awake
+              ],
+            )
+          ];
+        }
+
+pub none_is_forgotten : (c : Configuration) (x : Playing) → IsGiven c x → IsBooked x.world → IsPermitted c x → IsAwaited c x → NoneIsForgotten c x
+none_is_forgotten c x given booked permitted awaited =
+    record {
+      listed = booked.listed;
+      gated = λ k waits. (booked.lined_up k).waits waits (given.gated k waits).1;
+      permitted = permitted;
+      waits = given.waits;
+      awaited = awaited;
+    }

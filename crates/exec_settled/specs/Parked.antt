@@ -1,0 +1,86 @@
+-- WHO SLEEPS HAS NOTHING TO DO, whatever others do meanwhile, or somebody's next step wakes it; and no request is forgotten.
+--
+-- Where all sleep there is nobody else who could go on. Where some never sleep, a wake that was lost would show in no state of
+-- that kind: so of each worker that sleeps by itself it is said here that nothing is left for it to do. In between, while it is
+-- being woken, it is known whose step comes next.
+use Rattle.std.specs.Prelude.{◌≡◌, ℕ, Bool, true, false, ◌||◌, ◌⊎◌, [], slice_get, Some}
+use Rattle.exec_machine.specs.{declared.{config.Configuration.Configuration}, Progress.{has_to_close, is_cancel_untold, is_request_unfinished, is_runnable, is_sleeper_unfinished}, Tests.{is_done, is_gated, is_landed, is_open, is_resolved, is_staged}, World.{Common, Task, World, open_of, own_of, request_of, seat_of, sleeper_of, task_of}}
+use Rattle.exec_machine.specs.declared.state.Next.TheVariants as next
+use Rattle.exec_machine.specs.declared.state.Waiting.TheVariants as waiting
+use Rattle.exec_moves.specs.{declared.place.{InPoll.InPoll, Place.Place}, Plays.Playing, State.queue_of}
+use Rattle.exec_rest.specs.Rested.{IsOwed, IsRaised, IsSignalled, is_in_pool, is_latched, place_at, sleeps}
+use Rattle.exec_books.specs.{Booked.stands_at, Listed.AreListed}
+use Rattle.exec_settled.specs.{Awaited.IsAwaited, Given.{NobodyWaitsInVain, WaitsFor}, Permits.{IsHanded, IsPassing, IsPermitted}}
+
+-- a request of worker i has the permit of its open, and wasn't granted it; somebody passes that on by a step that comes next
+abbrev pub IsPassedOn : Configuration → Playing → ℕ → ℕ → Type 0
+IsPassedOn c x k i =
+    let it = request_of x.world.common k in
+    (it.worker ≡ i) × (is_gated it.phase ≡ true) × ((open_of x.world.common it.operation.target).holder ≡ Some k) × IsPassing c x it.operation.target
+
+-- Somebody's next step puts the latch into the wake word of worker i, or ends its wait; or passes on the permit of an open to a
+-- request of its own; or signals it, since that was done.
+pub data IsBeingWoken (c : Configuration) (x : Playing) (i : ℕ) : Type 0 where
+  Signalled : IsSignalled c x i → IsBeingWoken c x i
+  Raised : (ring : Bool) → IsRaised c x i ring → IsBeingWoken c x i
+  Passed : (k : ℕ) → IsPassedOn c x k i → IsBeingWoken c x i
+  Handed : IsHanded c x i → IsBeingWoken c x i
+
+-- A worker that is open and sleeps, and whom nobody wakes next.
+pub record IsParked (c : Configuration) (x : Playing) (i : ℕ) : Type 0 where
+  pub opened : is_open (seat_of x.world.common i).phase ≡ true
+  pub asleep : sleeps c x i ≡ true
+  pub left : IsBeingWoken c x i → ⊥
+
+module _ (c : Configuration) (x : Playing) where
+  abbrev s : Common
+  s = x.world.common
+
+  -- a task that is to be polled or in a poll, or looks next at what was sent
+  abbrev pub IsUp : ℕ → Type 0
+  IsUp t = (is_runnable (task_of s t).phase ≡ true) ⊎ ((j : ℕ) × (place_at c x j ≡ Place.Poll t InPoll.Resume))
+
+  pub record HasNothingToDo (i : ℕ) : Type 0 where
+    -- it was not signalled, has no message, and nothing lies in its run queue
+    pub unsignalled : is_latched c x i ≡ false
+    pub messages : (seat_of s i).inbox ≡ []
+    pub queue : (queue_of x.things i).values ≡ []
+    -- its root is not to be polled, nor was it woken since its last poll began; nor is it over, so this worker need not close
+    pub root : (t : ℕ) (it : Task) → slice_get s.tasks t ≡ Some it → it.home ≡ Some i → (is_runnable it.phase ≡ false) × ((is_done it.phase || it.fresh) ≡ true)
+    pub stays : has_to_close x.world i (seat_of s i) ≡ false
+    -- nothing is unfinished of its requests and its sleepers
+    pub requests : (k : ℕ) → (request_of s k).worker ≡ i → is_request_unfinished c x.world k (request_of s k) ≡ false
+    pub sleepers : (z : ℕ) → (sleeper_of s z).worker ≡ i → is_sleeper_unfinished s (sleeper_of s z) ≡ false
+    -- who waits for one of them that has come is up
+    pub came : (t k : ℕ) → WaitsFor s t (waiting.Request k) → (request_of s k).worker ≡ i → is_resolved (request_of s k).phase ≡ true → IsUp t
+    pub fired : (t z : ℕ) → WaitsFor s t (waiting.Timer z) → (sleeper_of s z).worker ≡ i → (sleeper_of s z).fired ≡ true → IsUp t
+
+  -- The kernel has all that it staged, and was told its cancels; and it has taken in all that landed.
+  pub record HasEnteredAll (i : ℕ) : Type 0 where
+    pub requests : (k : ℕ) → (request_of s k).worker ≡ i → (is_staged (request_of s k).phase ≡ false) × (is_landed (request_of s k).phase ≡ false)
+    pub cancels : is_cancel_untold s (own_of x.world i) ≡ false
+
+  abbrev pub IsPoolAtWork : Type 0
+  IsPoolAtWork = (i : ℕ) → is_in_pool c x i ≡ true → is_open (seat_of s i).phase ≡ true
+
+  pub record NobodySleepsOnWork : Type 0 where
+    pub parked : (i : ℕ) → IsParked c x i → HasNothingToDo i
+    -- so it is with the kernel of whoever sleeps, also of one that closes or is woken next
+    pub entered : (i : ℕ) → sleeps c x i ≡ true → HasEnteredAll i
+    -- while something lies in the global queue somebody looks for a worker, or one of the pool is awake or is woken next, until
+    -- one of these closes
+    pub pool : IsPoolAtWork → (x.things.global ≡ [] → ⊥) → IsOwed c x ⊎ ((i : ℕ) × (is_in_pool c x i ≡ true) × ((sleeps c x i ≡ false) ⊎ IsBeingWoken c x i))
+
+-- the request has the permit of its open, or waits for it there, or joins by the next line of its worker
+abbrev pub IsAtGate : World → ℕ → Type 0
+IsAtGate w k = let it = request_of w.common k in (stands_at (open_of w.common it.operation.target) k ≡ true) ⊎ ((own_of w it.worker).next ≡ next.Joins k)
+
+-- NO REQUEST IS FORGOTTEN, NOR ITS END, also where nobody sleeps: each stands in the lists of its worker for what it waits for,
+-- and at the gate of its open where that is the permit; a permit comes to who has it; nobody waits in vain; and who waits for
+-- what has come is woken, or is told first where that was elsewhere.
+pub record NoneIsForgotten (c : Configuration) (x : Playing) : Type 0 where
+  pub listed : AreListed x.world
+  pub gated : (k : ℕ) → is_gated (request_of x.world.common k).phase ≡ true → IsAtGate x.world k
+  pub permitted : IsPermitted c x
+  pub waits : NobodyWaitsInVain x.world.common
+  pub awaited : IsAwaited c x
