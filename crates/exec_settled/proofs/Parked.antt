@@ -226,5 +226,7 @@ none_is_forgotten c x given booked permitted awaited =
       gated = λ k waits. (booked.lined_up k).waits waits (given.gated k waits).1;
       permitted = permitted;
       waits = given.waits;
+      sent = booked.sent;
+      sent_too = booked.sent_too;
       awaited = awaited;
     }

@@ -5,11 +5,13 @@
 -- being woken, it is known whose step comes next.
 use Rattle.std.specs.Prelude.{◌≡◌, ℕ, Bool, true, false, ◌||◌, ◌⊎◌, [], slice_get, Some}
 use Rattle.exec_machine.specs.{declared.{config.Configuration.Configuration}, Progress.{has_to_close, is_cancel_untold, is_request_unfinished, is_runnable, is_sleeper_unfinished}, Tests.{is_done, is_gated, is_landed, is_open, is_resolved, is_staged}, World.{Common, Task, World, open_of, own_of, request_of, seat_of, sleeper_of, task_of}}
+use Rattle.exec_machine.specs.declared.state.Forwarding.TheVariants.{Sent}
+use Rattle.exec_machine.specs.declared.state.MailMessage.TheVariants as message
 use Rattle.exec_machine.specs.declared.state.Next.TheVariants as next
 use Rattle.exec_machine.specs.declared.state.Waiting.TheVariants as waiting
 use Rattle.exec_moves.specs.{declared.place.{InPoll.InPoll, Place.Place}, Plays.Playing, State.queue_of}
 use Rattle.exec_rest.specs.Rested.{IsOwed, IsRaised, IsSignalled, is_in_pool, is_latched, place_at, sleeps}
-use Rattle.exec_books.specs.{Booked.stands_at, Listed.AreListed}
+use Rattle.exec_books.specs.{Booked.{IsUnderWay, stands_at}, Listed.AreListed}
 use Rattle.exec_settled.specs.{Awaited.IsAwaited, Given.{NobodyWaitsInVain, WaitsFor}, Permits.{IsHanded, IsPassing, IsPermitted}}
 
 -- a request of worker i has the permit of its open, and wasn't granted it; somebody passes that on by a step that comes next
@@ -76,11 +78,14 @@ abbrev pub IsAtGate : World → ℕ → Type 0
 IsAtGate w k = let it = request_of w.common k in (stands_at (open_of w.common it.operation.target) k ≡ true) ⊎ ((own_of w it.worker).next ≡ next.Joins k)
 
 -- NO REQUEST IS FORGOTTEN, NOR ITS END, also where nobody sleeps: each stands in the lists of its worker for what it waits for,
--- and at the gate of its open where that is the permit; a permit comes to who has it; nobody waits in vain; and who waits for
--- what has come is woken, or is told first where that was elsewhere.
+-- and at the gate of its open where that is the permit; a permit comes to who has it; nobody waits in vain; who waits elsewhere
+-- has told the worker of that, or a message is under way; and who waits for what has come is woken, or is told first where that
+-- was elsewhere.
 pub record NoneIsForgotten (c : Configuration) (x : Playing) : Type 0 where
   pub listed : AreListed x.world
   pub gated : (k : ℕ) → is_gated (request_of x.world.common k).phase ≡ true → IsAtGate x.world k
   pub permitted : IsPermitted c x
   pub waits : NobodyWaitsInVain x.world.common
+  pub sent : (k : ℕ) → (request_of x.world.common k).forwarding ≡ Sent → IsUnderWay (message.ForwardRequest k) (seat_of x.world.common (request_of x.world.common k).worker)
+  pub sent_too : (z : ℕ) → (sleeper_of x.world.common z).forwarding ≡ Sent → IsUnderWay (message.ForwardTimer z) (seat_of x.world.common (sleeper_of x.world.common z).worker)
   pub awaited : IsAwaited c x

@@ -3,6 +3,7 @@
 ghost use Rattle.std.specs.Prelude.{◌≡◌, true, false, [], ◌∷◌, Some, None};
 ghost use Rattle.exec_outcomes.specs.declared.outcome.Outcome.TheVariants.{Success};
 ghost use Rattle.exec_machine.specs.{Deadlines.new_sleeper, Progress.IsRightlyAsleep};
+ghost use Rattle.exec_machine.specs.declared.state.Forwarding.TheVariants.{Sent};
 ghost use Rattle.exec_machine.specs.declared.state.RequestPhase.TheVariants.{Gated, Queued, Resolved, Staged};
 ghost use Rattle.exec_machine.specs.declared.state.TaskPhase.TheVariants as task;
 ghost use Rattle.exec_moves.specs.declared.handing.{AfterSignal.{AfterSignal}, InSignal.TheVariants.{Raise, SetLatch}};
@@ -105,13 +106,14 @@ pub fn a_wake_left()
 {}
 
 /// A task waits for a request that says so, and that it holds. Refused is a request that tells another task, or one that nobody
-/// holds. And one that is queued is forgotten where it stands in no list, and
-/// one that waits for a permit where it stands at no gate.
+/// holds. And one that is queued is forgotten where it stands in no list, one that waits for a permit where it stands at no
+/// gate, and one elsewhere where the message that somebody waits for it is lost.
 pub fn a_wait()
     ensures kept { NobodyWaitsInVain (waits_for (record its_request { worker = 1; waiter = Some 1 })).world.common }
     ensures of_another { NobodyWaitsInVain (waits_for (record its_request { worker = 1 })).world.common → ⊥ }
     ensures unheld { NobodyWaitsInVain (waits_for (record its_request { worker = 1; waiter = Some 1; observed = false })).world.common → ⊥ }
     ensures off_the_gate { NoneIsForgotten two_waiting.config (waits_for (record its_request { worker = 1; waiter = Some 1; phase = Gated })) → ⊥ }
+    ensures unsaid { NoneIsForgotten two_waiting.config (waits_for (record its_request { worker = 0; waiter = Some 1; forwarding = Sent })) → ⊥ }
     ensures in_no_list { NoneIsForgotten two_waiting.config (waits_for (record its_request { worker = 1; waiter = Some 1; phase = Queued })) → ⊥ }
 {}
 

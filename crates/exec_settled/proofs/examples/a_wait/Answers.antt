@@ -37,5 +37,6 @@ returns c =
       of_another = λ it. false≢true (ap (λ o. is_number 1 o) (it.requests 1 0 (record { going = refl; waits = refl })).waiter);
       unheld = λ it. false≢true (it.requests 1 0 (record { going = refl; waits = refl })).observed;
       off_the_gate = λ it. elim (it.gated 0 refl) [ inl stands ↦ false≢true stands | inr joins ↦ true≢false (ap is_settled joins) ];
+      unsaid = λ it. elim (it.sent 0 refl) [ inl there ↦ false≢true there | inr shut ↦ false≢true shut ];
       in_no_list = λ it. false≢true ((it.listed 0).queued refl);
     }

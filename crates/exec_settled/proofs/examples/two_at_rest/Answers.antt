@@ -1,7 +1,7 @@
-use Rattle.std.proofs.Common.{◌≡◌, ℕ, true, false, length, [], None, refl, sym, ap, ◌∙◌}
+use Rattle.std.proofs.Common.{◌≡◌, ℕ, Bool, true, false, length, [], None, refl, sym, ap, ◌∙◌}
 use Rattle.std.proofs.lemmas.{Bool.{true≢false, false≢true}, Option.none-some}
 use Rattle.std.specs.Prelude.{slice_get}
-use Rattle.exec_machine.specs.{declared.state.{Next.Next, Waiting.Waiting}, Progress.{has_to_close, is_cancel_untold, is_task_unfinished, sleeps_for_nothing}, Tests.{is_closing, is_done, is_open}, World.{Common, open_of, own_of, seat_of, task_of}}
+use Rattle.exec_machine.specs.{declared.state.{Forwarding.Forwarding, Next.Next, Waiting.Waiting}, Progress.{has_to_close, is_cancel_untold, is_task_unfinished, sleeps_for_nothing}, Tests.{is_closing, is_done, is_open}, World.{Common, open_of, own_of, seat_of, task_of}}
 use Rattle.exec_machine.specs.declared.state.Waiting.TheVariants as waiting
 use Rattle.exec_moves.specs.{Plays.desk_of, Seen.{next_at, polls_at}, Slots.is_in_slots, State.gate_of}
 use Rattle.exec_rest.specs.{Examples.{rested, two_waiting}, Places.{is_abed, is_to_sleep_on_ring}, Rested.{is_latched, place_at}}
@@ -66,6 +66,10 @@ awaited =
       alarmed = λ t z. nobody t (waiting.Timer z) refl;
     }
 
+abbrev is_sent : Forwarding → Bool
+is_sent Forwarding.Sent = true
+is_sent _ = false
+
 listed : AreListed rested.world
 listed k =
     record {
@@ -124,5 +128,5 @@ returns c =
             entered = λ i asleep. record { requests = λ k own. (refl, refl); cancels = each (λ i. is_cancel_untold s (own_of rested.world i) ≡ false) refl refl (λ i. refl) i };
             pool = λ opened some. absurd (some refl);
           };
-      unforgotten = record { listed = listed; gated = λ k h. absurd (false≢true h); permitted = permitted; waits = given.waits; awaited = awaited };
+      unforgotten = record { listed = listed; gated = λ k h. absurd (false≢true h); permitted = permitted; waits = given.waits; sent = λ k is. absurd (false≢true (ap is_sent is)); sent_too = λ z is. absurd (false≢true (ap is_sent is)); awaited = awaited };
     }
