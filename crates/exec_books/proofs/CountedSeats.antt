@@ -16,14 +16,14 @@ use Rattle.exec_books.proofs.CountedTurns.{each_set}
 
 -- A MESSAGE IN AN INBOX
 
-in_front : (p : MailMessage → Bool) (xs more : List MailMessage) → list_any p xs ≡ true → list_any p (xs ++ more) ≡ true
+pub in_front : (p : MailMessage → Bool) (xs more : List MailMessage) → list_any p xs ≡ true → list_any p (xs ++ more) ≡ true
 in_front p [] more h = absurd (false≢true h)
 in_front p (x ∷ xs) more h = elim (or_cases (p x) (list_any p xs) h) [
   | inl this ↦ or_left (p x) (list_any p (xs ++ more)) this
   | inr later ↦ or_right (p x) (list_any p (xs ++ more)) (in_front p xs more later)
 ]
 
-in_last : (p : MailMessage → Bool) (m : MailMessage) (xs : List MailMessage) → p m ≡ true → list_any p (xs ++ m ∷ []) ≡ true
+pub in_last : (p : MailMessage → Bool) (m : MailMessage) (xs : List MailMessage) → p m ≡ true → list_any p (xs ++ m ∷ []) ≡ true
 in_last p m [] is = or_left (p m) false is
 in_last p m (x ∷ xs) is = or_right (p x) (list_any p (xs ++ m ∷ [])) (in_last p m xs is)
 
@@ -54,22 +54,22 @@ seat_set {m} {s} i y here =
 either : {m : MailMessage} {s : Common} (b : Bool) (y z : Common) → Way m s y → Way m s z → Way m s (if b then y else z)
 either = grind arith
 
-word_same : (s : Common) (polls : Option ℕ) → (after_word s polls).seats ≡ s.seats
+pub word_same : (s : Common) (polls : Option ℕ) → (after_word s polls).seats ≡ s.seats
 word_same = grind arith
 
-wake_same : (me : Books) (s : Common) (t : ℕ) (choice : Choice) → (after_wake me s t choice).seats ≡ s.seats
+pub wake_same : (me : Books) (s : Common) (t : ℕ) (choice : Choice) → (after_wake me s t choice).seats ≡ s.seats
 wake_same = grind arith
 
 pub sending_same : (s : Common) (polls : Option ℕ) (m : MailMessage) → (after_sending s polls m).seats ≡ s.seats
 sending_same = grind arith
 
-message_same : (me : Books) (s : Common) (m : MailMessage) → (after_message me s m).seats ≡ s.seats
+pub message_same : (me : Books) (s : Common) (m : MailMessage) → (after_message me s m).seats ≡ s.seats
 message_same = grind arith
 
-pend_same : (s : Common) (i t : ℕ) → (after_pend s i t).seats ≡ s.seats
+pub pend_same : (s : Common) (i t : ℕ) → (after_pend s i t).seats ≡ s.seats
 pend_same s i t = elim (cases_Bool (task_of s t).cleared) [ inl over ↦ rw over refl | inr stays ↦ rw stays refl ]
 
-clear_same : (s : Common) (i t : ℕ) → (after_clear s i t).seats ≡ s.seats
+pub clear_same : (s : Common) (i t : ℕ) → (after_clear s i t).seats ≡ s.seats
 clear_same s i t = elim (cases_Bool (ends_by_clear (task_of s t).phase)) [ inl ends ↦ rw ends refl | inr stays ↦ rw stays refl ]
 
 module _ (m : MailMessage) where

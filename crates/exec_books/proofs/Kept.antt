@@ -1,12 +1,12 @@
 -- Each line of a run keeps the books.
 use Rattle.std.proofs.Common.{◌≡◌, ℕ, zero, suc, Bool, true, false, not, ◌&&◌, length, refl, sym, ap, ◌∙◌, get_or, arith}
 use Rattle.std.proofs.lemmas.Bool.{true≢false, false≢true, and_parts, not-true}
-use Rattle.exec_machine.specs.{declared.{config.Configuration.Configuration, event.{Event.Event, StepResult.{StepResult, TheVariants.{Refused, Did}}}, state.Forwarding.{Forwarding, TheVariants.Sent}, step.Action.{Action, TheVariants.Work}}, After.after, Allowed.Allowed, Callers.{is_enabled, is_held}, Choice.Choice, Progress.{Plan, begin}, Run.{Follows, after_line, first_owns}, Tasks.new_seat, Tests.{has_ended, is_asleep, is_awake}, World.{Seat, World, no_own, no_seat, no_sleeper, own_of, seat_of}}
+use Rattle.exec_machine.specs.{declared.{config.Configuration.Configuration, event.{Event.Event, StepResult.{StepResult, TheVariants.{Refused, Did}}}, state.Forwarding.{Forwarding, TheVariants.Sent}, step.Action.{Action, TheVariants.Work}}, After.after, Allowed.Allowed, Callers.{is_enabled, is_held}, Choice.Choice, Progress.{Plan, begin}, Run.{Follows, after_line, first_owns}, Tasks.new_seat, Tests.{has_ended, is_asleep, is_awake}, World.{Seat, World, no_open, no_own, no_seat, no_sleeper, own_of, seat_of}}
 use Rattle.exec_books.specs.Listed.{is_in}
 use Rattle.exec_books.proofs.Listed.{no_listed}
 use Rattle.exec_rest.proofs.{FactsA.seated, First.of_equal}
-use Rattle.exec_books.specs.Booked.{FirstIsOwn, IsBooked}
-use Rattle.exec_books.proofs.{Own.own_by_mail, Standing.listed_then, Counted.{counted_then, flying_then, let_go_then, over_then, requests_then, sleepers_then, timed_then, undated_then, untold_then}, Lined.lined_up_then, Mailed.{sent_then, sent_too_then}, Dues.dues_then, Others.booked_by_other}
+use Rattle.exec_books.specs.Booked.{FirstIsOwn, IsBooked, IsLed}
+use Rattle.exec_books.proofs.{Own.own_by_mail, Standing.listed_then, Counted.{counted_then, flying_then, let_go_then, over_then, requests_then, sleepers_then, timed_then, undated_then, untold_then}, Led.opens_led, Lined.lined_up_then, Mailed.{sent_then, sent_too_then}, Dues.dues_then, Others.booked_by_other}
 
 -- THE FIRST STATE: no worker has anything, and each is awake
 
@@ -27,6 +27,7 @@ first_booked p =
     record {
       listed = λ k. no_listed (own_of (begin p) 0) (seat_of (begin p).common 0).landed k;
       lined_up = λ k. record { durable = λ gated. absurd (false≢true gated); waits = λ gated within. absurd (false≢true gated); has = λ durable gated over within. absurd (true≢false over) };
+      led = λ file. of_equal IsLed p.config.files file no_open no_open (λ none. refl) (λ none. refl);
       timed = λ k over. refl;
       undated = λ k file. absurd (false≢true file);
       let_go = λ k released. refl;
@@ -54,6 +55,7 @@ booked_by_work c w i e choice owns first enabled may held =
     record {
       listed = listed_then c w i e choice owns here may own held;
       lined_up = lined_up_then c w i e choice owns here may own held;
+      led = λ file. opens_led c (own_of w i) s i e choice may file (held.led file);
       timed = timed_then c w i e choice owns here may own held;
       undated = undated_then c w i e choice owns here may own held;
       let_go = let_go_then c w i e choice owns here may own held;

@@ -22,6 +22,7 @@ pub mod DuesLists
 pub mod DuesAfter
 pub mod Dues
 pub mod Reach
+pub mod Led
 pub mod Lined
 pub mod OthersLeft
 pub mod Others

@@ -2,10 +2,10 @@
 use Rattle.std.proofs.Common.{◌≡◌, ℕ, zero, suc, ◌+◌, ◌<◌, ◌==◌, Bool, true, not, ◌&&◌, List, [], ◌∷◌, length, refl, sym, ap, ◌∙◌, subst, get_or, set, fold, cond, arith}
 use Rattle.std.specs.Prelude.{◌⊎◌}
 use Rattle.std.specs.List.{list_any}
-use Rattle.exec_machine.specs.{declared.state.{MailMessage.MailMessage, Operation.Operation, Request.Request}, Same.{same_message}, Tests.{has_ended, is_asleep, is_gated, is_in_flight, is_landed, is_of_file, is_queued, is_resolved}, World.{Common, Seat, World, no_request, no_sleeper, request_of, seat_of}}
+use Rattle.exec_machine.specs.{declared.state.{MailMessage.MailMessage, Operation.Operation, Request.Request}, Same.{same_message}, Tests.{has_ended, is_asleep, is_gated, is_in_flight, is_landed, is_of_file, is_queued, is_resolved}, World.{Common, Seat, World, no_open, no_request, no_sleeper, request_of, seat_of}}
 use Rattle.exec_machine.specs.declared.state.MailMessage.TheVariants as message
 use Rattle.exec_books.specs.Listed.{is_in}
-use Rattle.exec_books.specs.{Booked.{AreLinedUp, IsBooked, IsLinedUp, IsUnderWay, flying_of, unreleased_of}, Listed.AreListed}
+use Rattle.exec_books.specs.{Booked.{AreLinedUp, IsBooked, IsLed, IsLinedUp, IsUnderWay, flying_of, unreleased_of}, Listed.AreListed}
 use Rattle.exec_books.proofs.DuesLists.{HasDue}
 
 -- of a request: all but whether it flies or has landed
@@ -84,6 +84,7 @@ module _ (w : World) (late : Common) (left : Leaves w.common late) (held : IsBoo
       record {
         listed = listed_still;
         lined_up = lined_still;
+        led = λ file. subst (λ os. IsLed (get_or os file no_open)) (sym left.opens) (held.led file);
         timed = λ k h. (left.request k).timer ∙ held.timed k (sym (left.request k).resolved ∙ h);
         undated = λ k h. let same = left.request k in let was = held.undated k (ap (λ (o : Operation). is_of_file o.kind) (sym same.operation) ∙ h) in (ap (λ (o : Operation). o.deadline) same.operation ∙ was.0, same.timer ∙ was.1);
         let_go = λ k h. (left.request k).resolved ∙ held.let_go k (sym (left.request k).released ∙ h);

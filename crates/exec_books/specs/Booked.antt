@@ -1,5 +1,5 @@
 -- WHAT A WORKER HAS IS IN ITS BOOKS, in each state of a run: its requests stand in its lists, and what it counts is there.
-use Rattle.std.specs.Prelude.{◌≡◌, ℕ, ◌<◌, Bool, true, false, not, ◌==◌, ◌&&◌, ◌||◌, ◌⊎◌, List, length, count_by, slice_get, Some, None}
+use Rattle.std.specs.Prelude.{◌≡◌, ℕ, ◌<◌, Bool, true, false, not, ◌==◌, ◌&&◌, ◌||◌, ◌⊎◌, List, [], length, count_by, slice_get, Some, None}
 use Rattle.std.specs.List.{list_any}
 use Rattle.exec_machine.specs.{declared.state.{Forwarding.TheVariants.Sent, MailMessage.MailMessage, Request.Request}, Deadlines.{is_after, next_due, rest_until}, Same.{is_number, same_message}, Tests.{has_ended, is_asleep, is_awake, is_gated, is_in_flight, is_of_file, is_resolved}, World.{Common, Open, Seat, World, open_of, own_of, request_of, seat_of, sleeper_of}}
 use Rattle.exec_machine.specs.declared.state.MailMessage.TheVariants as message
@@ -30,6 +30,10 @@ flying_of i rs = count_by (λ r. (r.worker == i) && is_in_flight r.phase) rs
 abbrev pub stands_at : Open → ℕ → Bool
 stands_at o k = is_number k o.holder || is_in k o.waiting
 
+-- where nobody has the permit of this open nobody waits for it
+abbrev pub IsLed : Open → Type 0
+IsLed o = o.holder ≡ None → o.waiting ≡ []
+
 -- AT THE GATE of its open, where that is there, stands a request that waits for the permit, or joins it by the next line of its
 -- worker; and a durable one that neither waits nor is over has the permit.
 pub record IsLinedUp (w : World) (k : ℕ) (r : Request) : Type 0 where
@@ -49,6 +53,7 @@ pub record IsBooked (w : World) : Type 0 where
   pub listed : AreListed w
   -- and at the gate of its open, if it is durable
   pub lined_up : AreLinedUp w
+  pub led : (file : ℕ) → IsLed (open_of w.common file)
   -- one that is over has no deadline on the wheel, and only such a one is released
   pub timed : (k : ℕ) → is_resolved (request_of w.common k).phase ≡ true → (request_of w.common k).timer ≡ None
   -- a request of a file has no deadline

@@ -61,7 +61,7 @@ pub fn at_a_gate()
 {}
 
 /// Of the worker that sleeps, books that are wrong. Its request is queued, and in no list; is a durable write that waits for
-/// a permit, and stands at no gate, or that is queued, and another has the permit; is over, and on the wheel
+/// a permit, and stands at no gate, or behind nobody, or that is queued, and another has the permit; is over, and on the wheel
 /// still; is of a file, and has a deadline; was released, and flies; is one, and two are counted; flies, and seven are
 /// said to; is of a worker that isn't there; or was forwarded by a message that is in no inbox. The worker sleeps without
 /// end, though a deadline is to come; or on, though that has come. Or a second worker has a cancel of the first one's
@@ -72,6 +72,7 @@ pub fn wrong_books()
     ensures gated { IsBooked (at_gate its_own no_open its_write) → ⊥ }
     ensures permit { IsBooked (at_gate (record its_own { ready = 0 ∷ [] }) (record no_open { holder = Some 1 })
         (record its_write { phase = phase.Queued })) → ⊥ }
+    ensures unled { IsBooked (at_gate its_own (record no_open { waiting = 0 ∷ [] }) its_write) → ⊥ }
     ensures timed { IsBooked (with_own (record its_own { ended = 0 ∷ [] })
         (record its_request { phase = phase.Resolved Success })) → ⊥ }
     ensures undated { IsBooked (with_own its_own

@@ -1,11 +1,11 @@
 -- Of each executor holds what the laws of what is settled take for granted.
-use Rattle.std.proofs.Common.{◌≡◌, ℕ, true, false, Bool, not, List, length, Option, refl, sym, ap, subst, ◌∙◌, arith}
+use Rattle.std.proofs.Common.{◌≡◌, ℕ, true, false, Bool, not, ◌&&◌, List, length, Option, refl, sym, ap, subst, ◌∙◌, arith}
 use Rattle.std.proofs.lemmas.{Bool.{false≢true, not-true}, List.length-map}
 use Rattle.exec_task.specs.declared.body.Said.{Said}
 use Rattle.exec_machine.specs.{declared.{config.Configuration.Configuration, state.WorkerPhase.WorkerPhase}, Progress.Plan, Tests.{is_closing, is_done, is_open}, World.{Common, Task, no_task, own_of as own_at, seat_of, task_of}}
 use Rattle.exec_moves.specs.{declared.{idling.{AfterWait.AfterWait, InRingWait.InRingWait}, place.Place.Place}, Plays.Playing, Seen.{next_at, polls_at}}
 use Rattle.exec_invariants.{specs.Sound.Aims, proofs.Closes.now_done}
-use Rattle.exec_parts.specs.{declared.parts.seat.Seat.Seat as Chair, Phased.{closes_at, closing_in, root_over}, Spots.Spot, View.{own_of, task_seen}}
+use Rattle.exec_parts.specs.{declared.parts.seat.Seat.Seat as Chair, Phased.{closes_at, closing_in, has_left, root_over}, Spots.Spot, View.{own_of, task_seen}}
 use Rattle.exec_rest.specs.{AtRest.stays_closing, Places.is_abed, Rested.place_at}
 use Rattle.exec_settled.specs.Given.{IsGiven, ends_in_search}
 use Rattle.exec_core.specs.{Lift.{Stands, Shows, playing}, declared.executor.Core.Core}
@@ -22,6 +22,10 @@ closes_abed = grind arith
 -- and there its root is over only where it closes
 over_abed : (place : Place) → is_abed place ≡ true → root_over (closes_at place) (closing_in place) ≡ closes_at place
 over_abed = grind arith
+
+-- and it has passed the shutdown barrier there
+past_barrier : (place : Place) → stays_closing place ≡ true → has_left (closes_at place) (closing_in place) ≡ true
+past_barrier = grind arith
 
 -- a wait on the ring ends with a turn or a service
 goes_on : (p : Place) (c : Configuration) (i : ℕ) (seats : List Chair) → Aims p c i seats → ends_in_search p ≡ false
@@ -47,6 +51,12 @@ module _ {B L : Type 0} (left : B → L) (spot : L → Option Said → Spot) (p 
   back : (i : ℕ) → ends_in_search (place_at k shown i) ≡ false
   back i =
       by_worker left spot p c stands k i (λ d me seat q m. ends_in_search d.place ≡ false) (λ past. refl) (λ w chair it. goes_on w.place c.shared.config w.index c.shared.seats.items it.sound.aims)
+
+  past : (i : ℕ) → stays_closing (place_at k shown i) ≡ true → (seat_of s i).pool ≡ true → (seat_of s i).left ≡ true
+  past i =
+      by_worker left spot p c stands k i (λ d me seat q m. stays_closing d.place ≡ true → seat.pool ≡ true → seat.left ≡ true)
+      (λ past closes. absurd (false≢true closes))
+      (λ w chair it closes pool. (it.sound.phased chair it.mine).left ∙ ap (λ b. b && has_left (closes_at w.place) (closing_in w.place)) pool ∙ past_barrier w.place closes)
 
   closing : (i : ℕ) → is_closing (seat_of s i).phase ≡ true → is_abed (place_at k shown i) ≡ true → stays_closing (place_at k shown i) ≡ true
   closing i =
@@ -85,6 +95,7 @@ module _ {B L : Type 0} (left : B → L) (spot : L → Option Said → Spot) (p 
         slots = slots left spot p c stands k;
         beds = beds left spot p c stands k;
         back = back;
+        past = past;
         closing = closing;
         roots = roots;
       }

@@ -7,6 +7,7 @@ use Rattle.exec_parts.specs.Spots.{Spot}
 use Rattle.exec_books.{proofs.Kept.{booked_then, first_booked}}
 use Rattle.exec_rest.{specs.AtRest.IsPlaced, proofs.{Bare.{bare_first, bare_goes_on}, First.first_restful, Fresh.{fresh_first, fresh_goes_on}, OtherMail.first_posted, Shut.{shut_first, shut_goes_on}, Step.{goes_on, posted_goes_on}}}
 use Rattle.exec_settled.{specs.Given.IsGiven, proofs.{AwaitedKept.{awaited_then, first_awaited}, Parked.{nobody_sleeps_on_work, none_is_forgotten}, PermittedKept.{first_permitted, permitted_then}, Rightly.rightly, SettledKept.{first_settled, settled_then}}}
+use Rattle.exec_shutdown.proofs.{Shutdown.shuts_down, Stopping.{first_stops, stops_then}}
 use Rattle.exec_core.specs.{Lift.{Stands, Shows}, Once.QueuesOnce, Steady.{IsSteady, IsSteadyThere}, declared.executor.Core.Core}
 use Rattle.exec_core.proofs.{Given.are_given, Placed.are_placed, RootsOnce.queues_once, Runnable.at_rest}
 
@@ -19,11 +20,11 @@ stepped = grind arith
 
 pub first_steady : (p : Plan) → IsSteady p.config (first_playing p)
 first_steady p =
-    assumption (first_restful p, bare_first p, first_posted p, shut_first p, fresh_first p, first_booked p, first_settled p, first_permitted p, first_awaited p)
+    assumption (first_restful p, bare_first p, first_posted p, shut_first p, fresh_first p, first_booked p, first_settled p, first_permitted p, first_awaited p, first_stops p)
 
 steady_then : (c : Configuration) (x : Playing) (a : Action) → IsPlaced c x → IsGiven c x → Follows c x.world a (by_step c x a).told.0.said (by_step c x a).told.1 → IsGiven c (by_step c x a).next
     → IsSteady c x → IsSteady c (by_step c x a).next
-steady_then = grind (arith, goes_on, bare_goes_on, posted_goes_on, shut_goes_on, fresh_goes_on, stepped, booked_then, settled_then, permitted_then, awaited_then)
+steady_then = grind (arith, goes_on, bare_goes_on, posted_goes_on, shut_goes_on, fresh_goes_on, stepped, booked_then, settled_then, permitted_then, awaited_then, stops_then)
 
 -- and so nobody sleeps on work
 steady_there : (c : Configuration) (x : Playing) → IsPlaced c x → IsGiven c x → QueuesOnce x → IsSteady c x → IsSteadyThere c x
@@ -31,7 +32,7 @@ steady_there c x placed given once now =
     let rests = at_rest c x placed now.restful now.bare now.posted now.shut now.fresh once in
     let asleep = rightly c x placed given now.restful rests now.booked now.settled now.permitted now.awaited in
     let parked = nobody_sleeps_on_work c x placed given now.restful now.booked now.settled now.permitted now.bare now.posted now.fresh now.awaited in
-    record { steady = now; rests = record { rests = rests; asleep = asleep; parked = parked; unforgotten = none_is_forgotten c x given now.booked now.permitted now.awaited } }
+    record { steady = now; rests = record { rests = rests; asleep = asleep; parked = parked; unforgotten = none_is_forgotten c x given now.booked now.permitted now.awaited; shuts = shuts_down c x placed given now.restful now.booked now.stops parked } }
 
 module _ {B L : Type 0} (left : B → L) (runs : L → Plan → Option ℕ → Type 0) (holds : L → Option Said → List ℕ) (spot : L → Option Said → Spot) where
   rests_there : (p : Plan) (c : Core B) (x : Playing) → Stands c → Shows left runs holds spot p c x → IsSteady p.config x → IsSteadyThere p.config x

@@ -7,6 +7,7 @@ use Rattle.exec_progress.specs.{Left.left_to, Paced.IsPaced}
 use Rattle.exec_books.specs.Booked.{IsBooked}
 use Rattle.exec_rest.specs.{AtRest.{AreBare, AreFresh, IsShut, RestsWell}, Posted.IsPosted, Rested.IsRestful}
 use Rattle.exec_settled.specs.{Awaited.IsAwaited, Parked.{NobodySleepsOnWork, NoneIsForgotten}, Permits.IsPermitted, Settled.IsSettled}
+use Rattle.exec_shutdown.specs.{Shutdown.ShutsDown, Stopping.StopsAll}
 
 pub record IsSteady (c : Configuration) (x : Playing) : Type 0 where
   -- wakes and messages
@@ -20,14 +21,18 @@ pub record IsSteady (c : Configuration) (x : Playing) : Type 0 where
   pub settled : IsSettled c x
   pub permitted : IsPermitted c x
   pub awaited : IsAwaited c x
+  -- a stop of the pool comes to each of its workers
+  pub stops : StopsAll c x.world
 
 -- Where all workers sleep nothing is left to be run and nothing is unfinished; wherever a closing worker sleeps, it has a request
--- that isn't over; whatever others do, who sleeps has nothing to do or is woken next; and no request is forgotten.
+-- that isn't over; whatever others do, who sleeps has nothing to do or is woken next; no request is forgotten; and shutdown waits for
+-- the kernel alone.
 pub record Rests (c : Configuration) (x : Playing) : Type 0 where
   pub rests : RestsWell c x
   pub asleep : IsRightlyAsleep c x.world
   pub parked : NobodySleepsOnWork c x
   pub unforgotten : NoneIsForgotten c x
+  pub shuts : ShutsDown x.world
 
 -- both of a state
 pub record IsSteadyThere (c : Configuration) (x : Playing) : Type 0 where

@@ -14,7 +14,7 @@ use Rattle.exec_rest.specs.Places.{asked_for_poll, has_looked, is_dry, is_pooled
 use Rattle.exec_rest.proofs.Plain.{is_calm}
 
 -- TO LIGHT PLACES: nothing is known of a worker there, nor is a task given to its run queue, and it is not at its end; a service
--- is ahead, of which nothing is done yet, or none is before it sleeps.
+-- is ahead, of which nothing is done yet, before it may sleep.
 abbrev pub is_light : Place → Bool
 is_light Place.BeginTurn = true
 is_light (Place.Pick p) = true
@@ -22,6 +22,7 @@ is_light Place.TakeRootFlag = true
 is_light (Place.Poll t InPoll.LoadSpawnHead) = false
 is_light (Place.Poll t p) = true
 is_light (Place.Callbacks p AfterCallbacks.Test) = false
+is_light (Place.Callbacks p AfterCallbacks.Finish) = false
 is_light (Place.Callbacks p n) = true
 is_light (Place.Service InService.Sample v) = true
 is_light (Place.Closing InClosing.End) = false

@@ -10,12 +10,12 @@ use Rattle.exec_machine.specs.Same.{is_none}
 use Rattle.exec_rest.specs.{AtRest.{IsPlaced, stays_closing}, Places.{call_owes, call_raises, call_signals, has_looked, is_abed, is_dry, is_in_call, is_published, is_withdrawing, owes, owes_nothing, raises, signals}, Rested.{IsLaidOut, IsOwed, IsPoolOpen, IsRaised, IsRestful, IsSignalled, NothingWaits, Someone, has_bit, is_in_pool, is_latched, place_at, sleeps}}
 
 -- a test that all in a list pass, and what stands past its end
-all_at : {X : Type 0} (test : X → Bool) (d : X) → test d ≡ true → (xs : List X) → list_all test xs ≡ true → (i : ℕ) → test (get_or xs i d) ≡ true
+pub all_at : {X : Type 0} (test : X → Bool) (d : X) → test d ≡ true → (xs : List X) → list_all test xs ≡ true → (i : ℕ) → test (get_or xs i d) ≡ true
 all_at test d past [] all i = past
 all_at test d past (x ∷ xs) all zero = (and_parts (test x) (list_all test xs) all).0
 all_at test d past (x ∷ xs) all (suc i) = all_at test d past xs (and_parts (test x) (list_all test xs) all).1 i
 
-some_at_all : {T : Type 0} (o : Option T) (a : T) → is_none o ≡ true → o ≡ Some a → ⊥
+pub some_at_all : {T : Type 0} (o : Option T) (a : T) → is_none o ≡ true → o ≡ Some a → ⊥
 some_at_all o a none is = false≢true (sym (ap is_none is) ∙ none)
 
 pub none_or_some : {T : Type 0} (xs : List T) → (xs ≡ []) ⊎ (xs ≡ [] → ⊥)
@@ -26,6 +26,9 @@ none_or_some (x ∷ xs) = grind arith
 
 abed_owes_nothing : (p : Place) → is_abed p ≡ true → owes_nothing p ≡ true
 abed_owes_nothing = grind arith
+
+pub owes_parts : (p : Place) → owes_nothing p ≡ true → (is_none (signals p) ≡ true) × (is_none (raises p) ≡ true) × (not (owes p) ≡ true)
+owes_parts = grind (arith, and_parts)
 
 pub record Abed (p : Place) : Type 0 where
   pub looked : has_looked p ≡ true
@@ -47,6 +50,11 @@ no_call_of : (p : CallPlace) → is_in_call p ≡ false → NoCall p
 no_call_of CallPlace.Nothing h = record { idle = refl; signals = refl; raises = refl; owes = refl }
 no_call_of _ h = absurd (true≢false h)
 
+pub calls_none : (c : Configuration) (x : Playing) → IsRestful c x → list_all (λ call. not (is_half_done call)) x.world.common.callers ≡ true → (j : ℕ) → NoCall (caller_of x j).place
+calls_none c x held none j =
+    let idle = not-true (may_go_on x.world.common j) (all_at (λ call. not (is_half_done call)) call.Nothing refl x.world.common.callers none j) in
+    no_call_of (caller_of x j).place (false_from_ne_true (is_in_call (caller_of x j).place) (λ h. true≢false (sym (held.calls j h) ∙ idle)))
+
 module _ (c : Configuration) (x : Playing) (held : IsRestful c x) (all : all_asleep x.world ≡ true) where
   both : (list_all is_down x.world.common.seats ≡ true) × (list_all (λ call. not (is_half_done call)) x.world.common.callers ≡ true)
   both = and_parts (list_all is_down x.world.common.seats) (list_all (λ call. not (is_half_done call)) x.world.common.callers) all
@@ -59,12 +67,10 @@ module _ (c : Configuration) (x : Playing) (held : IsRestful c x) (all : all_asl
   idle = grind (arith, down, abed_owes_nothing, abed)
 
   idle_parts : (i : ℕ) → (is_none (signals (place_at c x i)) ≡ true) × (is_none (raises (place_at c x i)) ≡ true) × (not (owes (place_at c x i)) ≡ true)
-  idle_parts = grind (arith, and_parts, idle)
+  idle_parts i = owes_parts (place_at c x i) (idle i)
 
   pub callers : (j : ℕ) → NoCall (caller_of x j).place
-  callers j =
-      let none = not-true (may_go_on x.world.common j) (all_at (λ call. not (is_half_done call)) call.Nothing refl x.world.common.callers both.1 j) in
-      no_call_of (caller_of x j).place (false_from_ne_true (is_in_call (caller_of x j).place) (λ h. true≢false (sym (held.calls j h) ∙ none)))
+  callers = calls_none c x held both.1
 
   pub unsignalled : (i : ℕ) → IsSignalled c x i → ⊥
   unsignalled i (Someone.Worker j h) = some_at_all (signals (place_at c x j)) i (idle_parts j).0 h

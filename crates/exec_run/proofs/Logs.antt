@@ -4,6 +4,7 @@ use Rattle.exec_machine.specs.{declared.{step.Step.Step}, World.World, Run.{Runs
 use Rattle.exec_moves.specs.Plays.{Playing, by_step, first_playing, GoesByMoves}
 use Rattle.exec_rest.specs.AtRest.{RestsWell}
 use Rattle.exec_settled.{proofs.Resting.has_let_go, specs.{Parked.{NobodySleepsOnWork, NoneIsForgotten}, Settled.HaveLetGo}}
+use Rattle.exec_shutdown.specs.Shutdown.{ShutsDown}
 use Rattle.exec_core.specs.{Steady.{IsPacedThere, IsSteadyThere}, Turns.IsOrderly}
 use Rattle.exec_run.specs.{Log.{InEach, IsTheLogOf, KeepOwned, NoneOversleeps}, Steps.{Goes}}
 use Rattle.exec_base.specs.declared.limits.TheConstants.{MOST_STEPS}
@@ -63,6 +64,7 @@ is_the_log p steps told begins few has_lines goes =
       dues = each_by (λ x. NoneOversleeps x.world) p (λ x there. there.steady.booked.dues) (first_playing p) told begins.rests goes;
       parked = each_by (NobodySleepsOnWork p.config) p (λ x there. there.rests.parked) (first_playing p) told begins.rests goes;
       rests = each_by (RestsWell p.config) p (λ x there. there.rests.rests) (first_playing p) told begins.rests goes;
+      shuts = each_by (λ x. ShutsDown x.world) p (λ x there. there.rests.shuts) (first_playing p) told begins.rests goes;
       ended = each_by (λ x. HaveLetGo x.world) p (λ x there. has_let_go x.world there.steady.booked) (first_playing p) told begins.rests goes;
       asleep = asleep_by p (first_playing p) told begins.rests goes;
       solo = solo_by p.config (begin p) no_stretch (lines_of told) (choices_of told) (λ nobody. omega arith)

@@ -9,6 +9,7 @@ use Rattle.exec_core.specs.Turns.{IsOrderly}
 use Rattle.exec_moves.specs.Plays.{Playing, Plays, by_step, first_playing}
 use Rattle.exec_rest.specs.AtRest.{RestsWell}
 use Rattle.exec_settled.specs.{Parked.{NobodySleepsOnWork, NoneIsForgotten}, Settled.HaveLetGo}
+use Rattle.exec_shutdown.specs.Shutdown.{ShutsDown}
 
 -- The source held a trace that says this, which is not too long and whose configuration is in its ranges.
 pub record HasTrace (source : Option (List ℕ)) (m : Meaning) : Type 0 where
@@ -35,9 +36,10 @@ NoneOversleeps w = (i : ℕ) → is_awake (seat_of w.common i).rest ≡ false �
 -- The lines, each with what it leaves open, are the log of these steps: a run of the machine; each line is what the step
 -- tells by its move, so that there is no other log; in each state a task that is to be polled has one runnable, one that is
 -- polled has one poller, and durable requests of an open take turns; requests keep what they own until they are over, and none
--- is forgotten; nobody sleeps past what is due; whatever others do, who sleeps has nothing to do or is woken next; where all
--- sleep nothing is left to be run, and nothing is unfinished, and a closing worker sleeps only while a request of its own isn't
--- over; who has ended has let go of all its requests; and no worker and no caller turns for ever.
+-- is forgotten; nobody sleeps past what is due; whatever others do, who sleeps has nothing to do or is woken next, and who sleeps
+-- as it closes waits for a request that is held up; where all sleep nothing is left to be run, and nothing is unfinished; where
+-- nobody can take a step nobody is held at the shutdown barrier, and if one is closing the kernel has an operation; who has ended
+-- has let go of all its requests; and no worker and no caller turns for ever.
 pub record IsTheLogOf (p : Plan) (steps : List Step) (told : List Told) : Type 0 where
   pub runs : RunsBy p.config (begin p) (lines_of told) (choices_of told)
   pub plays : Plays p steps told
@@ -47,6 +49,7 @@ pub record IsTheLogOf (p : Plan) (steps : List Step) (told : List Told) : Type 0
   pub dues : InEach (λ x. NoneOversleeps x.world) p.config (first_playing p) told
   pub parked : InEach (NobodySleepsOnWork p.config) p.config (first_playing p) told
   pub rests : InEach (RestsWell p.config) p.config (first_playing p) told
+  pub shuts : InEach (λ x. ShutsDown x.world) p.config (first_playing p) told
   pub ended : InEach (λ x. HaveLetGo x.world) p.config (first_playing p) told
   pub asleep : RightlyAsleepBy p.config (begin p) (lines_of told) (choices_of told)
   pub solo : is_solo p.config (begin p) no_stretch (lines_of told) (choices_of told) ≡ true

@@ -3,12 +3,12 @@
 use Rattle.std.proofs.Common.{◌≡◌, ℕ, zero, suc, Bool, true, false, List, [], ◌∷◌, Option, Some, None, get_or, set, refl, sym, subst, arith}
 use Rattle.std.proofs.lemmas.Bool.{false≢true}
 use Rattle.exec_outcomes.specs.declared.outcome.OpResult.{OpResult}
-use Rattle.exec_machine.specs.{declared.{config.Configuration.Configuration, event.Event.Event, state.{Request.Request}, step.Action.Action}, Callers.{after_going_on, after_wake_by_call}, Choice.Choice, Tests.{is_gated}, World.{Common, no_request, request_of, seat_of, task_of}}
+use Rattle.exec_machine.specs.{declared.{config.Configuration.Configuration, event.Event.Event, state.{Request.Request}, step.Action.Action}, Callers.{after_going_on, after_wake_by_call}, Choice.Choice, Tests.{is_gated}, World.{Common, no_request, request_of, task_of}}
 use Rattle.exec_machine.specs.declared.state.RequestPhase.TheVariants as phase
 use Rattle.exec_machine.specs.declared.step.Action.TheVariants as action
 use Rattle.exec_moves.specs.{declared.handing.{CallPlace.CallPlace}, Call.{CallDesk, no_call}, MoveOfCaller.{call_on, call_wake}, Plays.{Playing, by_action, caller_of}, State.{Things, word_of}}
 use Rattle.exec_rest.specs.Rested.{IsLaidOut, is_latched, place_at}
-use Rattle.exec_rest.proofs.{CallMoves.{call_heeds, wake_heeds}, CallSeats.{going_seated, wake_begun}, Others.{beside, is_other, latch_then}}
+use Rattle.exec_rest.proofs.{CallMoves.{call_heeds, wake_heeds}, Others.{beside, is_other, latch_then}}
 use Rattle.exec_settled.specs.{Given.{gives_up}, Permits.{IsPermitted}}
 
 -- ONE REQUEST
@@ -37,7 +37,6 @@ record LeftAlone (c : Configuration) (x y : Playing) : Type 0 where
   pub latches : (j : ℕ) → is_latched c x j ≡ true → is_latched c y j ≡ true
   pub opens : y.world.common.opens ≡ x.world.common.opens
   pub requests : (k : ℕ) → Still (request_of x.world.common k) (request_of y.world.common k)
-  pub phases : (j : ℕ) → (seat_of y.world.common j).phase ≡ (seat_of x.world.common j).phase
 
 module _ (c : Configuration) (x y : Playing) (alone : LeftAlone c x y) where
   permitted_still : IsPermitted c x → IsPermitted c y
@@ -103,7 +102,6 @@ module _ (c : Configuration) (x : Playing) (laid : IsLaidOut c x) where
         latches = wake_latches c s d x.things t home;
         opens = it.opens;
         requests = of_same it.requests;
-        phases = (wake_begun s d x.things t home).seats.phase;
       }
   alone (action.GoOn j) aside =
       let d = caller_of x j in
@@ -115,7 +113,6 @@ module _ (c : Configuration) (x : Playing) (laid : IsLaidOut c x) where
         latches = (call_heeds c s d x.things d.place refl).latch_kept;
         opens = it.opens;
         requests = of_same it.requests;
-        phases = (going_seated s j m.event).phase;
       }
   alone (action.Clock d) aside = by_event (action.Clock d) refl refl refl (λ k. still)
   alone (action.Land r n) aside = by_event (action.Land r n) refl refl refl (lands r n)

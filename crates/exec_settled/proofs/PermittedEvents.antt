@@ -3,11 +3,9 @@ use Rattle.std.proofs.Common.{◌≡◌, ℕ, zero, suc, ◌<◌, ◌==◌, Bool
 use Rattle.std.proofs.lemmas.Bool.{cases_Bool, false≢true}
 use Rattle.std.proofs.lemmas.List.{get_or_append_left, length-set}
 use Rattle.exec_outcomes.specs.{declared.outcome.{OpResult.OpResult, Outcome.Outcome}, Outcomes.refuses_hint}
-use Rattle.std.specs.Prelude.{drop}
 use Rattle.exec_machine.specs.declared.{config.Configuration.Configuration, event.Event.Event, state.{MailMessage.MailMessage, Next.Next, Operation.Operation, Request.Request}}
-use Rattle.exec_machine.specs.{After.{common_after}, Choice.{Choice, Payer, Choice.{Plain, Passes, Pays, Posts}}, Closing.{after_clear, after_next, ends_by_clear, with_cleared}, Deadlines.{enrolled, expired}, Mail.{after_apply, after_message, after_post, after_sending}, Requests.{common_after_refusal, dropped, flown, granted, judged_of, opens_after_end, reaped}, Tasks.{after_over, after_payment, after_pend, after_word, pended_phase, requests_after_drops}, Tests.{is_gated, is_open, set_task}, World.{Common, Own as Books, Seat, no_request, no_seat, request_of, seat_of, task_of}}
+use Rattle.exec_machine.specs.{After.{common_after}, Choice.{Choice, Payer, Choice.{Plain, Pays, Posts}}, Closing.{after_clear, after_next, ends_by_clear, with_cleared}, Deadlines.{enrolled, expired}, Mail.{after_apply, after_message, after_post, after_sending}, Requests.{common_after_refusal, dropped, flown, granted, judged_of, opens_after_end, reaped}, Tasks.{after_over, after_payment, after_pend, after_word, pended_phase, requests_after_drops}, Tests.{is_gated, set_task}, World.{Common, Own as Books, no_request, request_of, task_of}}
 use Rattle.exec_machine.specs.declared.event.Event.TheVariants as event
-use Rattle.exec_machine.specs.declared.state.WorkerPhase.TheVariants as worker
 
 -- ONE REQUEST
 
@@ -80,45 +78,27 @@ drops_left i (r ∷ held) rs = by (it.worker == i) (drops_left i held)
     by true later = λ k. left_then (one rs r (dropped it) (dropped_left it) k) (later (set rs r (dropped it)) k)
     by false later = later rs
 
--- ALL SEATS: nobody opens
-
-abbrev NoneOpens : List Seat → List Seat → Type 0
-NoneOpens ss ss' = (j : ℕ) → is_open (get_or ss' j no_seat).phase ≡ true → is_open (get_or ss j no_seat).phase ≡ true
-
-one_seat : (ss : List Seat) (i : ℕ) (y : Seat) → (is_open y.phase ≡ true → is_open (get_or ss i no_seat).phase ≡ true) → NoneOpens ss (set ss i y)
-one_seat [] i y new j = λ h. h
-one_seat (x ∷ ss) zero y new zero = new
-one_seat (x ∷ ss) zero y new (suc j) = λ h. h
-one_seat (x ∷ ss) (suc i) y new zero = λ h. h
-one_seat (x ∷ ss) (suc i) y new (suc j) = one_seat ss i y new j
-
 -- THE COMMON PART
 
 record Stays (s late : Common) : Type 0 where
   pub requests : AllLeft s.requests late.requests
-  pub seats : NoneOpens s.seats late.seats
   pub opens : length late.opens ≡ length s.opens
 
 -- the same of those that were there before
 pub record Leaves (s late : Common) : Type 0 where
   pub requests : (k : ℕ) → k < length s.requests → Left (request_of s k) (request_of late k)
-  pub seats : (j : ℕ) → j < length s.seats → is_open (seat_of late j).phase ≡ true → is_open (seat_of s j).phase ≡ true
   pub opens : length late.opens ≡ length s.opens
 
 -- nothing of these changes
-same : {s late : Common} → late.requests ≡ s.requests → late.seats ≡ s.seats → length late.opens ≡ length s.opens → Stays s late
-same {s} requests seats opens = record { requests = subst (AllLeft s.requests) (sym requests) (all_same s.requests); seats = subst (NoneOpens s.seats) (sym seats) (λ j h. h); opens = opens }
+same : {s late : Common} → late.requests ≡ s.requests → length late.opens ≡ length s.opens → Stays s late
+same {s} requests opens = record { requests = subst (AllLeft s.requests) (sym requests) (all_same s.requests); opens = opens }
 
 stays_then : {s late later : Common} → Stays s late → Stays late later → Stays s later
-stays_then a b = record { requests = λ k. left_then (a.requests k) (b.requests k); seats = λ j h. a.seats j (b.seats j h); opens = b.opens ∙ a.opens }
+stays_then a b = record { requests = λ k. left_then (a.requests k) (b.requests k); opens = b.opens ∙ a.opens }
 
 -- some requests change
-requested : {s late : Common} → AllLeft s.requests late.requests → late.seats ≡ s.seats → length late.opens ≡ length s.opens → Stays s late
-requested {s} requests seats opens = record { requests = requests; seats = subst (NoneOpens s.seats) (sym seats) (λ j h. h); opens = opens }
-
--- one seat changes
-seated : (s : Common) (i : ℕ) (y : Seat) → (is_open y.phase ≡ true → is_open (seat_of s i).phase ≡ true) → NoneOpens s.seats (set s.seats i y)
-seated s i y new = one_seat s.seats i y new
+requested : {s late : Common} → AllLeft s.requests late.requests → length late.opens ≡ length s.opens → Stays s late
+requested requests opens = record { requests = requests; opens = opens }
 
 opens_end : (o : Operation) (outcome : Option Outcome) (s : Common) → length (opens_after_end o outcome s) ≡ length s.opens
 opens_end = grind (arith, cases_Bool, length-set)
@@ -130,7 +110,7 @@ word_stays : (s : Common) (polls : Option ℕ) → Stays s (after_word s polls)
 word_stays = grind (arith, same)
 
 next_stays : (s : Common) (i : ℕ) (n : Next) → Stays s (after_next s i n)
-next_stays = grind (arith, same, length-set, all_same, seated)
+next_stays = grind (arith, same, length-set, all_same)
 
 payment_stays : (s : Common) (polls : Option ℕ) (payer : Payer) → Stays s (after_payment s polls payer)
 payment_stays = grind (arith, requested, one, phased, same)
@@ -139,34 +119,28 @@ sending_stays : (s : Common) (polls : Option ℕ) (m : MailMessage) → Stays s 
 sending_stays = grind (arith, same, requested, one, phased)
 
 post_stays : (s : Common) (to : ℕ) (m : MailMessage) (choice : Choice) → Stays s (after_post s to m choice)
-post_stays = grind (arith, cases_Bool, same, all_same, seated)
+post_stays = grind (arith, cases_Bool, same, all_same)
 
 message_stays : (me : Books) (s : Common) (m : MailMessage) → Stays s (after_message me s m)
 message_stays = grind (arith, same, requested, one, phased, dropped_left)
 
-message_seats : (me : Books) (s : Common) (m : MailMessage) → (after_message me s m).seats ≡ s.seats
-message_seats = grind arith
-
 apply_stays : (me : Books) (s : Common) (i : ℕ) (m : MailMessage) → Stays s (after_apply me s i m)
-apply_stays me s i m =
-    let told = message_stays me s m in
-    let y : Seat = record (seat_of s i) { inbox = drop 1 (seat_of s i).inbox } in
-    record { requests = told.requests; seats = subst (λ ss. NoneOpens s.seats (set ss i y)) (sym (message_seats me s m)) (seated s i y (λ h. h)); opens = told.opens }
+apply_stays me s i m = let told = message_stays me s m in record { requests = told.requests; opens = told.opens }
 
 over_stays : (s : Common) (i t : ℕ) → Stays s (after_over s i t)
-over_stays s i t = requested (drops_left i (task_of s t).held s.requests) refl refl
+over_stays s i t = requested (drops_left i (task_of s t).held s.requests) refl
 
 pend_stays : (s : Common) (i t : ℕ) → Stays s (after_pend s i t)
 pend_stays s i t = by (task_of s t).cleared
   where
     by : (b : Bool) → Stays s (if b then after_over s i t else set_task s t (record (task_of s t) { phase = pended_phase (task_of s t).phase }))
     by true = over_stays s i t
-    by false = same refl refl refl
+    by false = same refl refl
 
 clear_stays : (s : Common) (i t : ℕ) → Stays s (after_clear s i t)
 clear_stays s i t = elim (cases_Bool (ends_by_clear (task_of s t).phase)) [
-  | inl ends ↦ rw ends (let it = over_stays (with_cleared s t) i t in record { requests = it.requests; seats = it.seats; opens = it.opens })
-  | inr goes_on ↦ rw goes_on (same refl refl refl)
+  | inl ends ↦ rw ends (let it = over_stays (with_cleared s t) i t in record { requests = it.requests; opens = it.opens })
+  | inr goes_on ↦ rw goes_on (same refl refl)
 ]
 
 -- EACH EVENT
@@ -182,39 +156,33 @@ module _ (c : Configuration) (me : Books) (s : Common) (i : ℕ) where
   stays (event.Admit r kind outcome) choice none = absurd (false≢true none)
   stays (event.Dedicated t j) choice none = absurd (false≢true none)
   stays event.Turn Plain none = next_stays s i me.next
-  stays event.Turn Passes none = record { requests = all_same s.requests; seats = seated s i (record (seat_of s i) { left = true }) (λ h. h); opens = refl }
   stays event.Turn (Pays payer) none = next_stays s i me.next
   stays event.Turn (Posts payer left_out) none = next_stays s i me.next
   stays (event.Pend t) choice none = pend_stays s i t
   stays (event.Done t) choice none = over_stays s i t
   stays (event.Fault t n) choice none = over_stays s i t
-  stays (event.Spawn t k) choice none = let it = word_stays s me.polls in record { requests = it.requests; seats = it.seats; opens = it.opens }
+  stays (event.Spawn t k) choice none = let it = word_stays s me.polls in record { requests = it.requests; opens = it.opens }
   stays event.Closed choice none = word_stays s me.polls
   stays (event.Clear t) choice none = clear_stays s i t
-  stays (event.Wait (Some r)) choice none = requested (one s.requests r _ (phased refl refl refl)) refl refl
-  stays (event.Got r outcome) choice none = requested (one s.requests r _ (phased refl refl refl)) refl refl
-  stays (event.Drop r) choice none = requested (one s.requests r _ (dropped_left (request_of s r))) refl refl
-  stays (event.Wake t) (Pays payer) none = let it = payment_stays s me.polls payer in record { requests = it.requests; seats = it.seats; opens = it.opens }
-  stays (event.Grant r outcome) choice none = requested (one s.requests r _ (granted_left outcome (request_of s r))) refl (opens_end (request_of s r).operation outcome s)
-  stays (event.Enrol r outcome) choice none = requested (one s.requests r _ (enrolled_left _ outcome (request_of s r))) refl refl
-  stays (event.Stage r) choice none = requested (one s.requests r _ (ungated refl refl refl)) refl refl
-  stays event.Enter choice none = requested (all_flown i s.requests) refl refl
-  stays event.Busy choice none = record { requests = all_same s.requests; seats = seated s i (record (seat_of s i) { busy = false }) (λ h. h); opens = refl }
-  stays (event.Reap r n outcome) choice none = grind (arith, one, reaped_left, seated, opens_end, refusal_opens)
-  stays (event.Expire r outcome) choice none = requested (one s.requests r _ (expired_left outcome (request_of s r))) refl refl
-  stays (event.Cancel r) choice none = requested (one s.requests r _ (phased refl refl refl)) refl refl
-  stays (event.Orphan r outcome) choice none = requested (one s.requests r _ (dropped_left (request_of s r))) refl refl
-  stays (event.Release r) choice none = requested (one s.requests r _ (phased refl refl refl)) refl refl
+  stays (event.Wait (Some r)) choice none = requested (one s.requests r _ (phased refl refl refl)) refl
+  stays (event.Got r outcome) choice none = requested (one s.requests r _ (phased refl refl refl)) refl
+  stays (event.Drop r) choice none = requested (one s.requests r _ (dropped_left (request_of s r))) refl
+  stays (event.Wake t) (Pays payer) none = let it = payment_stays s me.polls payer in record { requests = it.requests; opens = it.opens }
+  stays (event.Grant r outcome) choice none = requested (one s.requests r _ (granted_left outcome (request_of s r))) (opens_end (request_of s r).operation outcome s)
+  stays (event.Enrol r outcome) choice none = requested (one s.requests r _ (enrolled_left _ outcome (request_of s r))) refl
+  stays (event.Stage r) choice none = requested (one s.requests r _ (ungated refl refl refl)) refl
+  stays event.Enter choice none = requested (all_flown i s.requests) refl
+  stays (event.Reap r n outcome) choice none = grind (arith, one, reaped_left, opens_end, refusal_opens)
+  stays (event.Expire r outcome) choice none = requested (one s.requests r _ (expired_left outcome (request_of s r))) refl
+  stays (event.Cancel r) choice none = requested (one s.requests r _ (phased refl refl refl)) refl
+  stays (event.Orphan r outcome) choice none = requested (one s.requests r _ (dropped_left (request_of s r))) refl
+  stays (event.Release r) choice none = requested (one s.requests r _ (phased refl refl refl)) refl
   stays (event.Send to m) choice none = stays_then (sending_stays s me.polls m) (post_stays (after_sending s me.polls m) to m choice)
   stays (event.Apply m) choice none = apply_stays me s i m
-  stays (event.Rouse other) choice none = record { requests = all_same s.requests; seats = seated s other (record (seat_of s other) { rest = _ }) (λ h. h); opens = refl }
-  stays (event.Sleep until) choice none = record { requests = all_same s.requests; seats = seated s i (record (seat_of s i) { rest = _ }) (λ h. h); opens = refl }
-  stays event.Close choice none = record { requests = all_same s.requests; seats = seated s i (record (seat_of s i) { phase = worker.Closing }) (λ h. absurd (false≢true h)); opens = refl }
-  stays event.End choice none = record { requests = all_same s.requests; seats = seated s i (record (seat_of s i) { phase = worker.Ended; inbox = [] }) (λ h. absurd (false≢true h)); opens = refl }
-  stays _ choice none = same refl refl refl
+  stays _ choice none = same refl refl
 
   of_stays : {late : Common} → Stays s late → Leaves s late
-  of_stays a = record { requests = λ k within. a.requests k; seats = λ j within. a.seats j; opens = a.opens }
+  of_stays a = record { requests = λ k within. a.requests k; opens = a.opens }
 
   pub leaves : (e : Event) (choice : Choice) → Leaves s (common_after c me s i e choice)
   leaves (event.Admit r what outcome) choice = grind (arith, get_or_append_left, as_it_was, cases_Bool, length-set)

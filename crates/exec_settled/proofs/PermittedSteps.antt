@@ -3,7 +3,7 @@ use Rattle.std.proofs.Common.{◌≡◌, ◌≢◌, ℕ, ◌<◌, ◌≤◌, Boo
 use Rattle.std.proofs.lemmas.{Bool.{true≢false, false≢true, and_parts, cases_Bool, cases_eq, cases_lt, or_cases, or_left, or_right}, List.{get_or_past, length-append}, Option.none-some}
 use Rattle.std.specs.Prelude.{◌⊎◌, drop, not, slice_get}
 use Rattle.exec_outcomes.specs.Accounts.{is_durable}
-use Rattle.exec_machine.specs.{declared.{config.Configuration.Configuration}, Tests.{is_gated, is_open, is_resolved}, World.{Common, open_of, request_of, seat_of}}
+use Rattle.exec_machine.specs.{declared.{config.Configuration.Configuration}, Tests.{is_gated, is_resolved}, World.{Common, open_of, request_of}}
 use Rattle.exec_moves.specs.{declared.place.{InPoll.InPoll, Place.Place}, Plays.{Playing, by_move, desk_of}, State.{Desk, Moved, Things, gate_of}}
 use Rattle.exec_books.specs.Booked.{IsBooked}
 use Rattle.exec_rest.specs.Rested.{IsLaidOut, is_latched, place_at}
@@ -21,7 +21,7 @@ second = grind (arith, none-some)
 same_some : (h k : ℕ) → Some h ≡ Some k → h ≡ k
 same_some h k is = ap (λ o. unwrap_or o 0) is
 
-unresolved_if : (a b : Bool) → (a && b) ≡ false → b ≡ true → a ≡ false
+pub unresolved_if : (a b : Bool) → (a && b) ≡ false → b ≡ true → a ≡ false
 unresolved_if = grind (arith, true≢false)
 
 -- what waits for a permit is there
@@ -134,7 +134,7 @@ module _ (c : Configuration) (x : Playing) (laid : IsLaidOut c x) (given : IsGiv
 
     -- A HOLDER THAT WASN'T GRANTED ITS PERMIT
 
-    module _ (file k : ℕ) (within : file < length x.things.gates) (gated : is_gated (request_of late k).phase ≡ true) (going : is_open (seat_of late (request_of late k).worker).phase ≡ true) where
+    module _ (file k : ℕ) (within : file < length x.things.gates) (gated : is_gated (request_of late k).phase ≡ true) where
       -- it was the first before
       was_first : (rest : List ℕ) → gate_of x.things file ≡ k ∷ rest → length (k ∷ rest) ≤ length (gate_of m.thing file) → gives_up (request_of s k) ≡ false → IsTold c next file (request_of late k).worker
       was_first rest was long stays =
@@ -142,8 +142,7 @@ module _ (c : Configuration) (x : Playing) (laid : IsLaidOut c x) (given : IsGiv
           let left = leaves.requests k at.0 in
           let gated_before = left.gated gated in
           let holds : (open_of s file).holder ≡ Some k = given.holder file ∙ ap (λ g. slice_get (in_line s g) 0) was ∙ ap (λ b. slice_get (if b then rest else k ∷ rest) 0) stays in
-          let going_before = leaves.seats (request_of s k).worker (booked.requests k at.0) (subst (λ w. is_open (seat_of late w).phase ≡ true) left.worker going) in
-          let told = before.granted k gated_before (ap (λ f. (open_of s f).holder) at.2 ∙ holds) going_before in
+          let told = before.granted k gated_before (ap (λ f. (open_of s f).holder) at.2 ∙ holds) in
           subst (λ w. IsTold c next file w) (sym left.worker)
           (keeps_told file k rest within was long gated_before gated (subst (λ f. IsTold c x f (request_of s k).worker) at.2 told))
 
@@ -209,17 +208,17 @@ module _ (c : Configuration) (x : Playing) (laid : IsLaidOut c x) (given : IsGiv
               let is = join.gate ∙ ap (λ g. g ++ join.request ∷ []) some in
               first_stays h rest (rest ++ join.request ∷ []) some is (omega (arith, length-append rest (join.request ∷ []))) (sym (ap (λ g. slice_get (in_line late g) 0) is) ∙ first)
 
-    granted_then : (k : ℕ) → is_gated (request_of late k).phase ≡ true → (open_of late (request_of late k).operation.target).holder ≡ Some k → is_open (seat_of late (request_of late k).worker).phase ≡ true
+    granted_then : (k : ℕ) → is_gated (request_of late k).phase ≡ true → (open_of late (request_of late k).operation.target).holder ≡ Some k
         → IsTold c next (request_of late k).operation.target (request_of late k).worker
-    granted_then k gated holds going =
+    granted_then k gated holds =
         let file = (request_of late k).operation.target in
         let within : file < length x.things.gates = omega (arith, (later.gated k gated).1, leaves.opens, given.gates) in
         let first = sym (later.holder file) ∙ holds in
         elim (hands.gates file within) [
-          | inl same ↦ stays file k within gated going same first
+          | inl same ↦ stays file k within gated same first
           | inr changed ↦ elim changed [
-            | inl left ↦ left_by file k within gated going left.1 left.2 first
-            | inr joined ↦ joined_by file k within gated going joined first
+            | inl left ↦ left_by file k within gated left.1 left.2 first
+            | inr joined ↦ joined_by file k within gated joined first
           ]
         ]
 

@@ -4,14 +4,14 @@ use Rattle.std.proofs.lemmas.Bool.{true≢false, false≢true, cases_lt, eq-eqb,
 use Rattle.std.proofs.lemmas.List.{get_or_past, Sums.sum_by-cons}
 use Rattle.std.specs.Prelude.{nat_le}
 use Rattle.std.specs.List.{list_any}
-use Rattle.exec_machine.specs.{declared.{config.Configuration.Configuration, state.{Request.Request, RequestPhase.RequestPhase}}, Deadlines.{earlier, first_timer, first_until, is_after}, Progress.{all_asleep, is_cancel_untold, is_sleeper_unfinished}, Tests.{has_ended, is_asleep, is_gated, is_in_flight, is_landed, is_open, is_queued, is_resolved, is_staged}, World.{Common, World, no_request, own_of, request_of, seat_of, sleeper_of}}
+use Rattle.exec_machine.specs.{declared.{config.Configuration.Configuration, state.{Request.Request, RequestPhase.RequestPhase}}, Deadlines.{earlier, first_timer, first_until, is_after, is_due}, Progress.{all_asleep, is_cancel_untold, is_sleeper_unfinished}, Tests.{has_ended, is_asleep, is_gated, is_in_flight, is_landed, is_open, is_queued, is_resolved, is_staged}, World.{Common, World, no_request, own_of, request_of, seat_of, sleeper_of}}
 use Rattle.exec_moves.specs.{declared.{handing.{AfterCallbacks.AfterCallbacks, Heard.Heard}, place.{InCallbacks.InCallbacks, InPoll.InPoll, Place.Place}}, Plays.{Playing, desk_of, first_desk}, State.Desk}
 use Rattle.exec_books.specs.Listed.{is_in}
-use Rattle.exec_settled.proofs.Undone.{after_earlier, none_slept, false_from_ne_true}
+use Rattle.exec_settled.proofs.Undone.{after_earlier, first_ahead, none_due, none_slept, false_from_ne_true}
 use Rattle.exec_books.specs.Booked.{IsBooked, unreleased_of}
 use Rattle.exec_rest.specs.{AtRest.{IsPlaced, is_end, is_idle, stays_closing}, Places.is_abed, Posted.has_tested, Rested.{IsRestful, place_at, sleeps}}
 use Rattle.exec_rest.proofs.Rest.{down}
-use Rattle.exec_settled.specs.{Given.{passes_at}, Permits.{hands_to, is_past}, Settled.{HasSubmitted, HasTold, HaveLetGo, IsSettled, ends_ring_wait, waits_on_word}}
+use Rattle.exec_settled.specs.{Given.{passes_at}, Permits.{hands_to, is_past}, Settled.{HasSubmitted, HasTold, HaveLetGo, IsSettled, ends_ring_wait, has_submitted, has_told, waits_on_word}}
 
 -- PLACES OF SLEEP, AND OF THE END
 
@@ -21,14 +21,23 @@ idle_passes = grind arith
 idle_hands : (p : Place) → is_idle p ≡ true → hands_to p ≡ None
 idle_hands = grind arith
 
-pub abed_past : (file : ℕ) (p : Place) → is_abed p ≡ true → stays_closing p ≡ false → is_past file p ≡ true
+pub abed_past : (file : ℕ) (p : Place) → is_abed p ≡ true → is_past file p ≡ true
 abed_past = grind arith
 
 abed_tested : (p : Place) → is_abed p ≡ true → stays_closing p ≡ false → has_tested p ≡ true
 abed_tested = grind arith
 
+abed_told : (p : Place) → is_abed p ≡ true → has_told p ≡ true
+abed_told = grind arith
+
+abed_submitted : (p : Place) → is_abed p ≡ true → has_submitted p ≡ true
+abed_submitted = grind arith
+
 abed_where : (p : Place) → is_abed p ≡ true → (waits_on_word p ≡ true) ⊎ (ends_ring_wait p ≡ true)
 abed_where = grind arith
+
+end_told : (p : Place) → is_end p ≡ true → has_told p ≡ true
+end_told = grind arith
 
 -- REQUESTS
 
@@ -104,25 +113,28 @@ module _ (c : Configuration) (x : Playing) (held : IsRestful c x) (booked : IsBo
   pub cancels_told : is_cancel_untold its (own_of x.world i) ≡ false
   cancels_told = none_in its (own_of x.world i).untold untold_over
 
+  pub told_asleep : HasTold (own_of x.world i) (desk_of c x i)
+  told_asleep = settled.told i (abed_told (place_at c x i) (held.abed i asleep))
+
+  pub submitted : HasSubmitted c (own_of x.world i)
+  submitted = settled.submitted i (abed_submitted (place_at c x i) (held.abed i asleep))
+
+  -- each of its deadlines is ahead
+  pub none_comes : (k : ℕ) → is_due i its.clock (request_of its k) ≡ false
+  none_comes = none_due i its.clock its.requests (first_ahead its.clock (is_open (seat_of its i).phase) (first_timer i its.requests) (first_until i its.sleepers) (booked.dues i (not-true _ asleep)).1)
+
   -- AN OPEN ONE sleeps in a turn
 
   module _ (placed : IsPlaced c x) (opened : is_open (seat_of its i).phase ≡ true) where
     pub tests : has_tested (place_at c x i) ≡ true
     tests = abed_tested (place_at c x i) (held.abed i asleep) (placed.stays i opened)
 
-    pub told_open : HasTold (own_of x.world i) (desk_of c x i)
-    told_open = settled.told i (or_left (has_tested (place_at c x i)) (is_end (place_at c x i)) tests)
-
-    pub submitted : HasSubmitted c (own_of x.world i)
-    submitted = settled.submitted i tests
-
-    pub both_ahead : (is_after its.clock (first_timer i its.requests) ≡ true) × (is_after its.clock (first_until i its.sleepers) ≡ true)
-    both_ahead =
-        after_earlier its.clock (first_timer i its.requests) (first_until i its.sleepers)
-        (subst (λ b. is_after its.clock (if b then earlier (first_timer i its.requests) (first_until i its.sleepers) else first_timer i its.requests) ≡ true) opened (booked.dues i (not-true _ asleep)).1)
-
     pub none_fires : (z : ℕ) → (sleeper_of its z).worker ≡ i → is_sleeper_unfinished its (sleeper_of its z) ≡ false
-    none_fires z own = subst (λ j. (is_asleep j (sleeper_of its z) && nat_le (sleeper_of its z).until its.clock) ≡ false) (sym own) (none_slept i its.clock its.sleepers both_ahead.1 z)
+    none_fires z own =
+        let timer = first_timer i its.requests in
+        let until = first_until i its.sleepers in
+        let ahead = subst (λ b. is_after its.clock (if b then earlier timer until else timer) ≡ true) opened (booked.dues i (not-true _ asleep)).1 in
+        subst (λ j. (is_asleep j (sleeper_of its z) && nat_le (sleeper_of its z).until its.clock) ≡ false) (sym own) (none_slept i its.clock its.sleepers (after_earlier its.clock timer until ahead).1 z)
 
 -- WORKERS, where all sleep and no call is half done
 
@@ -161,8 +173,8 @@ module _ (c : Configuration) (x : Playing) (placed : IsPlaced c x) (held : IsRes
 
   pub told : (i : ℕ) → i < length x.desks → HasTold (own_of x.world i) (desk_of c x i)
   told i within = elim (down c x held all i) [
-    | inl over ↦ settled.told i (or_right (has_tested (place_at c x i)) (is_end (place_at c x i)) (placed.over i within over))
-    | inr asleep ↦ told_open c x held booked settled i asleep.1 placed asleep.0
+    | inl over ↦ settled.told i (end_told (place_at c x i) (placed.over i within over))
+    | inr asleep ↦ told_asleep c x held booked settled i asleep.1
   ]
 
   -- A WORKER THAT HAS ENDED has no request that isn't over, nor a sleeper

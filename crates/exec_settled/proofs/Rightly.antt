@@ -44,8 +44,8 @@ module _ (c : Configuration) (x : Playing) (placed : IsPlaced c x) (given : IsGi
     unwoken i (IsBeingWoken.Passed k (own, gated, holds, passes)) = nobody_passes c x placed held booked settled all passes.0 (request_of s k).operation.target passes.1
     unwoken i (IsBeingWoken.Handed handed) = nobody_hands c x placed held booked settled all handed.0 i handed.1
 
-    parked : (i : ℕ) → is_open (seat_of s i).phase ≡ true → sleeps c x i ≡ true → IsParked c x i
-    parked i opened asleep = record { opened = opened; asleep = asleep; left = unwoken i }
+    parked : (i : ℕ) → sleeps c x i ≡ true → IsParked c x i
+    parked i asleep = record { asleep = asleep; left = unwoken i }
 
     of_ended : (k : ℕ) → has_ended (seat_of s (request_of s k).worker).phase ≡ true → is_request_unfinished c x.world k (request_of s k) ≡ false
     of_ended k over =
@@ -64,7 +64,7 @@ module _ (c : Configuration) (x : Playing) (placed : IsPlaced c x) (given : IsGi
     request_finished : (k : ℕ) → is_request_unfinished c x.world k (request_of s k) ≡ false
     request_finished k = elim (down c x held all (request_of s k).worker) [
       | inl over ↦ of_ended k over
-      | inr asleep ↦ request_done c x placed given held booked settled permitted k (parked (request_of s k).worker asleep.0 asleep.1)
+      | inr asleep ↦ request_done c x placed given held booked settled permitted k (parked (request_of s k).worker asleep.1)
     ]
 
     -- A TASK
@@ -138,7 +138,7 @@ module _ (c : Configuration) (x : Playing) (placed : IsPlaced c x) (given : IsGi
     closed_by : (i : ℕ) → has_to_close x.world i (seat_of s i) ≡ false
     closed_by i = elim (down c x held all i) [
       | inl over ↦ false_from_ne_true _ (λ h. not_both (seat_of s i).phase (and_parts (is_open (seat_of s i).phase) (is_done (task_of s (own_of x.world i).root).phase) h).0 over)
-      | inr asleep ↦ need_not_close c x placed given held booked settled permitted i (parked i asleep.0 asleep.1)
+      | inr asleep ↦ need_not_close c x placed given held booked settled permitted i (parked i asleep.1)
     ]
 
     nothing : NothingUnfinished c x.world

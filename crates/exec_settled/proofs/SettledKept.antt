@@ -1,20 +1,19 @@
 -- What a worker has done before it sleeps stays done in each step.
-use Rattle.std.proofs.Common.{◌≡◌, true, ◌||◌, refl, sym, ◌∙◌, arith}
+use Rattle.std.proofs.Common.{◌≡◌, true, refl, sym, ◌∙◌, arith}
 use Rattle.std.proofs.lemmas.Bool.{true≢false}
 use Rattle.exec_machine.specs.{declared.{config.Configuration.Configuration, step.Action.Action}, Callers.is_enabled, Progress.Plan, Run.Follows}
 use Rattle.exec_moves.specs.Plays.{Playing, by_action, by_step, first_playing}
-use Rattle.exec_rest.specs.{AtRest.{IsPlaced, is_end}, Places.is_to_sleep_on_ring, Posted.has_tested}
+use Rattle.exec_rest.specs.{AtRest.{IsPlaced, stays_closing}, Places.is_to_sleep_on_ring}
 use Rattle.exec_rest.proofs.First.{awake_first, not_there}
-use Rattle.exec_settled.specs.{Given.IsGiven, Settled.{IsSettled, waits_on_word}}
-use Rattle.exec_rest.specs.AtRest.{stays_closing}
+use Rattle.exec_settled.specs.{Given.IsGiven, Settled.{IsSettled, has_submitted, has_told, waits_on_word}}
 use Rattle.exec_settled.proofs.SettledOthers.{caller_settles, other_settles}
 use Rattle.exec_settled.proofs.SettledStep.{work_settles}
 
 pub first_settled : (p : Plan) → IsSettled p.config (first_playing p)
 first_settled p =
     record {
-      told = λ i h. not_there p (λ q. has_tested q || is_end q) refl i h;
-      submitted = λ i h. not_there p has_tested refl i h;
+      told = λ i h. not_there p has_told refl i h;
+      submitted = λ i h. not_there p has_submitted refl i h;
       free = λ i h. not_there p waits_on_word refl i h;
       busy = λ i h. not_there p stays_closing refl i h;
       entered = λ i h. not_there p is_to_sleep_on_ring refl i h;

@@ -27,23 +27,23 @@ use Rattle.exec_rest.specs.{AtRest.is_end, Places.is_to_sleep_on_ring, Posted.ha
 use Rattle.exec_rest.proofs.Away.{calm_untested}
 use Rattle.exec_rest.proofs.Continuing.{calm_light, calm_after_fit, calm_after_leave, light_after_send, light_leaves_for_turn, light_next_pick, calm_to_queue}
 use Rattle.exec_rest.specs.AtRest.{stays_closing}
-use Rattle.exec_settled.specs.Settled.{HasSubmitted, HasTold, ends_ring_wait, waits_on_word}
+use Rattle.exec_settled.specs.Settled.{HasSubmitted, HasTold, ends_ring_wait, has_submitted, has_tested_ring, has_told, waits_on_word}
 use Rattle.exec_settled.proofs.SettledParts.{is_shut, off_after_fit, off_after_leave, off_to_queue, off_light}
-use Rattle.exec_settled.proofs.SettledPlaces.{OfBooks, closing_shut, deep_off, end_shut, is_deep, is_plain, is_sleep, kept, sleep_deep, submitted_by, submitted_with, told_by, told_with, word_tested}
+use Rattle.exec_settled.proofs.SettledPlaces.{OfBooks, closing_shut, deep_off, deep_untested, is_plain, is_sleep, kept, ring_off, sleep_deep, submitted_by, submitted_with, told_by, told_with, untold_off, word_tested}
 use Rattle.exec_settled.proofs.SettledTest.{Stays}
 
 module _ (c : Configuration) (i : ℕ) (me : Books) (s : Common) where
   -- what holds of the worker at its place
   pub record Was (p : Place) (d : Desk) : Type 0 where
-    pub told : (has_tested p || is_end p) ≡ true → HasTold me d
-    pub submitted : has_tested p ≡ true → HasSubmitted c me
+    pub told : has_told p ≡ true → HasTold me d
+    pub submitted : has_submitted p ≡ true → HasSubmitted c me
     pub free : waits_on_word p ≡ true → has_requests i s ≡ false
     pub busy : stays_closing p ≡ true → has_requests i s ≡ true
 
   -- and after an event, with which it comes to desk q from place p
   pub record Settles (p : Place) (e : Event) (choice : Choice) (q : Desk) : Type 0 where
-    pub told : (has_tested q.place || is_end q.place) ≡ true → HasTold (own_after c me s i e choice) q
-    pub submitted : has_tested q.place ≡ true → HasSubmitted c (own_after c me s i e choice)
+    pub told : has_told q.place ≡ true → HasTold (own_after c me s i e choice) q
+    pub submitted : has_submitted q.place ≡ true → HasSubmitted c (own_after c me s i e choice)
     pub free : waits_on_word q.place ≡ true → has_requests i s ≡ false
     pub busy : stays_closing q.place ≡ true → has_requests i s ≡ true
     -- it makes no request, and ends none
@@ -60,8 +60,8 @@ module _ (c : Configuration) (i : ℕ) (me : Books) (s : Common) where
         let wait = closing_shut q.place off in
         let deep = sleep_deep q.place (deep_off q.place out off) in
         record {
-          told = λ h. absurd (false≢true (sym (ap (λ b. b || is_end q.place) out ∙ end_shut q.place off) ∙ h));
-          submitted = λ h. absurd (false≢true (sym out ∙ h));
+          told = λ h. absurd (false≢true (sym (untold_off q.place out off) ∙ h));
+          submitted = λ h. absurd (false≢true (sym (ap (λ b. b || has_tested_ring q.place) out ∙ ring_off q.place out off) ∙ h));
           free = λ h. absurd (false≢true (sym word ∙ h));
           busy = λ h. absurd (false≢true (sym wait ∙ h));
           plain = λ h. absurd (false≢true (sym (ap (λ b. b || stays_closing q.place) word ∙ wait) ∙ h));
@@ -94,12 +94,12 @@ module _ (c : Configuration) (i : ℕ) (me : Books) (s : Common) where
         finished : (b : Bool) → has_requests i s ≡ b → has_callbacks mine f ≡ false → Leads (if b then ring_wait (ring_size c) stay.Closing f else at.Closing closing.End)
         finished true some none = leads_if (is_full (ring_size c) f) _ _ (waits ring.EnterFullRing refl) (waits ring.TestRing refl)
           where
-            waits : (r : InRingWait) → is_deep (at.RingWait r stay.Closing) ≡ false → Leads (at.RingWait r stay.Closing)
-            waits r above =
-                let deep = sleep_deep (at.RingWait r stay.Closing) above in
+            waits : (r : InRingWait) → has_tested_ring (at.RingWait r stay.Closing) ≡ false → Leads (at.RingWait r stay.Closing)
+            waits r before =
+                let deep = sleep_deep (at.RingWait r stay.Closing) (deep_untested (at.RingWait r stay.Closing) before) in
                 record {
-                  told = λ h. absurd (false≢true h);
-                  submitted = λ h. absurd (false≢true h);
+                  told = λ h. told_with mine (own_after c me s i e choice) f (record q { place = at.RingWait r stay.Closing }) same ends (told_by mine f none);
+                  submitted = λ h. absurd (false≢true (sym before ∙ h));
                   free = λ h. absurd (false≢true h);
                   busy = λ h. some;
                   plain = λ h. plain;
@@ -242,10 +242,10 @@ module _ (c : Configuration) (i : ℕ) (me : Books) (s : Common) where
       pub settled : (e : Event) (choice : Choice) (q : Desk) → Was p d → has_tested p ≡ true → Stays c i me s d e choice q → Settles p e choice q
       settled e choice q was within stays =
           let wait = closing_shut q.place stays.place.off in
-          let deep = sleep_deep q.place stays.place.deep in
+          let deep = sleep_deep q.place (deep_untested q.place stays.place.early) in
           record {
-            told = λ h. told_with me (own_after c me s i e choice) d q stays.desk (ap (λ (k : OfBooks). k.ended) stays.own) (was.told (or_left (has_tested p) (is_end p) within));
-            submitted = λ h. submitted_with c me (own_after c me s i e choice) stays.own (was.submitted within);
+            told = λ h. told_with me (own_after c me s i e choice) d q stays.desk (ap (λ (k : OfBooks). k.ended) stays.own) (was.told (or_left (has_tested p || is_end p) (stays_closing p) (or_left (has_tested p) (is_end p) within)));
+            submitted = λ h. submitted_with c me (own_after c me s i e choice) stays.own (was.submitted (or_left (has_tested p) (has_tested_ring p) within));
             free = stays.place.free;
             busy = λ h. absurd (false≢true (sym wait ∙ h));
             plain = λ h. stays.plain;

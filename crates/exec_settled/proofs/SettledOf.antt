@@ -1,17 +1,16 @@
 -- What a worker has done before it sleeps, of one worker; and what leaves that so.
-use Rattle.std.proofs.Common.{◌≡◌, ℕ, zero, suc, true, false, ◌||◌, List, [], ◌∷◌, ◌++◌, get_or, set, refl, sym, ap, ◌∙◌, arith}
+use Rattle.std.proofs.Common.{◌≡◌, ℕ, zero, suc, true, false, List, [], ◌∷◌, ◌++◌, get_or, set, refl, sym, ap, ◌∙◌, arith}
 use Rattle.std.specs.Prelude.{not}
 use Rattle.exec_machine.specs.{declared.{config.Configuration.Configuration, event.Event.{Event}}, After.made_by, Tasks.new_own, Tests.is_awake, World.{Common, Own as Books, Seat, no_own, own_of, seat_of}}
 use Rattle.exec_moves.specs.{Callback.has_requests, Plays.{Playing, desk_of}, State.Desk}
-use Rattle.exec_rest.specs.{AtRest.is_end, Places.is_to_sleep_on_ring, Posted.has_tested}
-use Rattle.exec_rest.specs.AtRest.{stays_closing}
-use Rattle.exec_settled.specs.Settled.{HasEntered, HasSubmitted, HasTold, IsSettled, ends_ring_wait, waits_on_word}
+use Rattle.exec_rest.specs.{AtRest.stays_closing, Places.is_to_sleep_on_ring}
+use Rattle.exec_settled.specs.Settled.{HasEntered, HasSubmitted, HasTold, IsSettled, ends_ring_wait, has_submitted, has_told, waits_on_word}
 use Rattle.exec_settled.proofs.SettledLike.{AreAlike, entered_then, requests_then}
 use Rattle.exec_settled.proofs.SettledPlaces.{OfBooks, kept, listed, submitted_with, told_with}
 
 pub record SettledOf (c : Configuration) (i : ℕ) (me : Books) (d : Desk) (s : Common) : Type 0 where
-  pub told : (has_tested d.place || is_end d.place) ≡ true → HasTold me d
-  pub submitted : has_tested d.place ≡ true → HasSubmitted c me
+  pub told : has_told d.place ≡ true → HasTold me d
+  pub submitted : has_submitted d.place ≡ true → HasSubmitted c me
   pub free : waits_on_word d.place ≡ true → has_requests i s ≡ false
   pub busy : stays_closing d.place ≡ true → has_requests i s ≡ true
   pub entered : is_to_sleep_on_ring d.place ≡ true → HasEntered i me s
@@ -44,8 +43,8 @@ pub record IsLeft (c : Configuration) (i : ℕ) (me mine : Books) (d e : Desk) (
 pub left_settled : (c : Configuration) (i : ℕ) (me mine : Books) (d e : Desk) (s t : Common) → IsLeft c i me mine d e s t → SettledOf c i me d s → SettledOf c i mine e t
 left_settled c i me mine d e s t left before =
     record {
-      told = λ h. told_with me mine d e left.desk (ap (λ (k : OfBooks). k.ended) left.own) (before.told (sym (ap (λ p. has_tested p || is_end p) left.place) ∙ h));
-      submitted = λ h. submitted_with c me mine left.own (before.submitted (sym (ap has_tested left.place) ∙ h));
+      told = λ h. told_with me mine d e left.desk (ap (λ (k : OfBooks). k.ended) left.own) (before.told (sym (ap has_told left.place) ∙ h));
+      submitted = λ h. submitted_with c me mine left.own (before.submitted (sym (ap has_submitted left.place) ∙ h));
       free = λ h. requests_then i s t left.requests ∙ before.free (sym (ap waits_on_word left.place) ∙ h);
       busy = λ h. requests_then i s t left.requests ∙ before.busy (sym (ap stays_closing left.place) ∙ h);
       entered = λ h. entered_then i s t left.requests me mine left.untold (before.entered (sym (ap is_to_sleep_on_ring left.place) ∙ h));

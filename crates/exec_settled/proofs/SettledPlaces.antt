@@ -1,5 +1,5 @@
 -- What a worker has told and submitted, as its desk and its own part say it, and what is known of a place by which of its tests fail.
-use Rattle.std.proofs.Common.{◌≡◌, ℕ, Bool, true, false, List, Option, sym, ap, ◌∙◌, arith}
+use Rattle.std.proofs.Common.{◌≡◌, ℕ, Bool, true, false, List, Option, refl, sym, ap, ◌∙◌, arith}
 use Rattle.std.proofs.lemmas.Bool.{false≢true, true≢false}
 pub use Rattle.std.proofs.lemmas.Bool.{not-true}
 use Rattle.exec_machine.specs.{declared.{config.Configuration.Configuration, event.Event.{Event, TheVariants.{Busy, Enter, Release, Rouse, Sleep, Turn, Wake}}}, World.Own as Books}
@@ -7,7 +7,7 @@ use Rattle.exec_moves.specs.{declared.{idling.{InRingWait.InRingWait, Stay.Stay}
 use Rattle.exec_moves.specs.declared.place.Place.TheVariants as at
 use Rattle.exec_rest.specs.{AtRest.is_end, Places.is_to_sleep_on_ring, Posted.has_tested}
 use Rattle.exec_rest.specs.AtRest.{stays_closing}
-use Rattle.exec_settled.specs.Settled.{HasSubmitted, HasTold, ends_ring_wait, waits_on_word}
+use Rattle.exec_settled.specs.Settled.{HasSubmitted, HasTold, ends_ring_wait, has_tested_ring, has_told, waits_on_word}
 use Rattle.exec_settled.proofs.SettledParts.{is_shut}
 
 -- WHAT THAT READS of a desk, and of an own part
@@ -65,6 +65,17 @@ closing_shut = grind arith
 -- who is at none of these neither sleeps on its ring nor ends that
 pub deep_off : (p : Place) → has_tested p ≡ false → is_shut p ≡ false → is_deep p ≡ false
 deep_off = grind arith
+
+-- nor is it past the test with which a wait there begins, nor has it told all
+pub ring_off : (p : Place) → has_tested p ≡ false → is_shut p ≡ false → has_tested_ring p ≡ false
+ring_off = grind arith
+
+pub untold_off : (p : Place) → has_tested p ≡ false → is_shut p ≡ false → has_told p ≡ false
+untold_off p out off = rw (out, end_shut p off, closing_shut p off) refl
+
+-- before that test it sleeps there no more than elsewhere
+pub deep_untested : (p : Place) → has_tested_ring p ≡ false → is_deep p ≡ false
+deep_untested = grind arith
 
 sleep_deep_ring : (p : InRingWait) (y : Stay) → is_deep (at.RingWait p y) ≡ false → (is_to_sleep_on_ring (at.RingWait p y) ≡ false) × (ends_ring_wait (at.RingWait p y) ≡ false)
 sleep_deep_ring = grind arith

@@ -14,23 +14,23 @@ use Rattle.exec_moves.specs.declared.idling.InScan.TheVariants as scan
 use Rattle.exec_moves.specs.declared.idling.InSearch.TheVariants as search
 use Rattle.exec_moves.specs.declared.idling.InWordWait.TheVariants as word
 use Rattle.exec_moves.specs.declared.place.Place.TheVariants as at
-use Rattle.exec_settled.specs.Settled.{waits_on_word}
+use Rattle.exec_settled.specs.Settled.{has_tested_ring, waits_on_word}
 use Rattle.exec_settled.proofs.SettledParts.{is_shut}
-use Rattle.exec_settled.proofs.SettledPlaces.{is_deep, is_plain, kept, listed}
+use Rattle.exec_settled.proofs.SettledPlaces.{is_plain, kept, listed}
 
 module _ (c : Configuration) (i : ℕ) (me : Books) (s : Common) where
-  -- WHERE THAT LEADS: to no wait of a closing worker, and into no sleep on the ring; to a wait on the wake word only without requests
+  -- WHERE THAT LEADS: to no wait of a closing worker, and not past the test of a wait on the ring; to a wait on the wake word only without requests
   pub record OfPlace (q : Place) : Type 0 where
     pub off : is_shut q ≡ false
-    pub deep : is_deep q ≡ false
+    pub early : has_tested_ring q ≡ false
     pub free : waits_on_word q ≡ true → has_requests i s ≡ false
 
   pub of_if : (b : Bool) (q r : Place) → OfPlace q → OfPlace r → OfPlace (if b then q else r)
   of_if = grind arith
 
   -- one of which all that computes
-  pub of_plain : (q : Place) → is_shut q ≡ false → is_deep q ≡ false → waits_on_word q ≡ false → OfPlace q
-  of_plain q off deep word = record { off = off; deep = deep; free = λ h. absurd (false≢true (sym word ∙ h)) }
+  pub of_plain : (q : Place) → is_shut q ≡ false → has_tested_ring q ≡ false → waits_on_word q ≡ false → OfPlace q
+  of_plain q off early word = record { off = off; early = early; free = λ h. absurd (false≢true (sym word ∙ h)) }
 
   of_leaving : (d : Desk) → OfPlace (leaves_for_turn c i me s d)
   of_leaving = grind arith
@@ -124,7 +124,7 @@ module _ (c : Configuration) (i : ℕ) (me : Books) (s : Common) where
       -- ON THE WAKE WORD, of a worker without requests
       module _ (none : has_requests i s ≡ false) where
         of_wait : (p : InWordWait) → OfPlace (at.WordWait p)
-        of_wait p = record { off = refl; deep = refl; free = λ h. none }
+        of_wait p = record { off = refl; early = refl; free = λ h. none }
 
         -- the moment of a sleep is noted
         noted : (w : PureWord) (due : Bool) (e : Desk) → kept e ≡ kept d → OfPlace e.place → IsLeft (noting_sleep s.clock (if due then does Turn e w else does (Sleep (next_due s i)) e w))

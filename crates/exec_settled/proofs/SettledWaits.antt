@@ -6,7 +6,7 @@ use Rattle.exec_words.specs.{Idle.is_in, Word.is_idle_at}
 use Rattle.exec_machine.specs.{declared.{config.Configuration.Configuration, event.Event.{Event, TheVariants.{Busy, End, Enter, Sleep, Turn}}}, After.own_after, Choice.{Choice, Choice.Plain}, Deadlines.next_due, Ranges.ring_size, World.{Common, seat_of, Own as Books}}
 use Rattle.exec_moves.specs.declared.idling.{AfterWait.AfterWait, InRingWait.InRingWait, Stay.Stay}
 use Rattle.exec_moves.specs.declared.place.{InClosing.InClosing, Place.Place}
-use Rattle.exec_moves.specs.{Callback.{is_full}, Claim.claimed, Load.{has_come, has_submissions}, Look.searching_if, Move.{move_at, move_ring_wait}, Send.first_letter, State.{Desk, Moved, Things, WakePoll, does, wake_poll_of, word_of}, Submit.one_more, Thing.{mailbox_of, ring_of}, Wait.{after_wait, enter_ring, has_completion}}
+use Rattle.exec_moves.specs.{Callback.{has_requests, is_full}, Claim.claimed, Load.{has_come, has_submissions}, Look.searching_if, Move.{move_at, move_ring_wait}, Send.first_letter, State.{Desk, Moved, Own, Things, WakePoll, does, turns, wake_poll_of, word_of}, Submit.{one_more, with_poll}, Thing.{mailbox_of, ring_of}, Wait.{after_wait, enter_ring, has_completion}}
 use Rattle.exec_moves.specs.declared.handing.AfterSend.TheVariants as send
 use Rattle.exec_moves.specs.declared.idling.AfterWait.TheVariants as next
 use Rattle.exec_moves.specs.declared.idling.InRingWait.TheVariants as ring
@@ -15,11 +15,12 @@ use Rattle.exec_moves.specs.declared.place.InClosing.TheVariants as closing
 use Rattle.exec_moves.specs.declared.place.Place.TheVariants as at
 use Rattle.exec_rest.specs.{Places.is_to_sleep_on_ring, Posted.has_tested}
 use Rattle.exec_rest.proofs.{Continuing.{light_polls, light_first_pick}, Untested.{is_test, untested}}
+use Rattle.exec_settled.specs.Settled.{HasSubmitted, has_submitted, has_tested_ring, waits_on_word}
 use Rattle.exec_settled.proofs.SettledMoves.{Comes, Settles, Was, away, calls, globals, kicks_one, pushes_one, settled, signals_one, tests}
 use Rattle.exec_settled.proofs.SettledParts.{is_shut, off_after_return, off_light}
 use Rattle.exec_settled.proofs.SettledOff.{closes, loads, mails, picks, pops_one, serves}
 use Rattle.exec_settled.proofs.SettledPolls.{off_claim, off_made_up, off_moved_if, polls, posts}
-use Rattle.exec_settled.proofs.SettledPlaces.{is_plain, kept, listed, no_sleep, sleep_deep}
+use Rattle.exec_settled.proofs.SettledPlaces.{OfBooks, deep_untested, is_plain, kept, listed, no_sleep, sleep_deep, submitted_by, submitted_with, told_with}
 use Rattle.exec_settled.proofs.SettledTest.{IsLeft, OfPlace, looks, of_plain, of_withdraws, reads, scans, searches, waits_there, withdraws_one}
 
 module _ (c : Configuration) (i : ℕ) (me : Books) (s : Common) (d : Desk) where
@@ -32,6 +33,8 @@ module _ (c : Configuration) (i : ℕ) (me : Books) (s : Common) (d : Desk) wher
     pub own : listed (own_after c me s i e choice) ≡ listed me
     pub plain : is_plain e ≡ true
     pub lands : Lands y q.place
+    -- it comes past the test with which the wait begins only with nothing to submit
+    pub tested : has_tested_ring q.place ≡ true → (has_tested_ring p ≡ true) ⊎ (has_submissions c me ≡ false)
     pub entered : is_to_sleep_on_ring q.place ≡ true → e ≡ Enter
     pub slept : (until : Option ℕ) → e ≡ Sleep until → (is_to_sleep_on_ring p ≡ true) × ((seat_of s i).landed ≡ [])
 
@@ -43,10 +46,13 @@ module _ (c : Configuration) (i : ℕ) (me : Books) (s : Common) (d : Desk) wher
     waits_if true m n one other = one
     waits_if false m n one other = other
 
+    abbrev Tested : Place → Type 0
+    Tested q = has_tested_ring q ≡ true → (has_tested_ring p ≡ true) ⊎ (has_submissions c me ≡ false)
+
     -- by a turn
-    turned : (q : Desk) → kept q ≡ kept d → Lands y q.place → is_to_sleep_on_ring q.place ≡ false → OnRing p y Turn Plain q
-    turned q desk lands up =
-        record { desk = desk; own = refl; plain = refl; lands = lands; entered = λ h. absurd (false≢true (sym up ∙ h)); slept = λ until is. no_sleep Turn refl until is }
+    turned : (q : Desk) → kept q ≡ kept d → Lands y q.place → Tested q.place → is_to_sleep_on_ring q.place ≡ false → OnRing p y Turn Plain q
+    turned q desk lands tested up =
+        record { desk = desk; own = refl; plain = refl; lands = lands; tested = tested; entered = λ h. absurd (false≢true (sym up ∙ h)); slept = λ until is. no_sleep Turn refl until is }
 
     kept_if : (b : Bool) (e f : Desk) → kept e ≡ kept d → kept f ≡ kept d → kept (if b then e else f) ≡ kept d
     kept_if true e f one other = one
@@ -60,9 +66,9 @@ module _ (c : Configuration) (i : ℕ) (me : Books) (s : Common) (d : Desk) wher
   leaves = grind (arith, of_withdraws, of_plain)
 
   out : (p : Place) (y : Stay) (n : AfterWait) → OnRing p y Turn Plain (record d { place = after_wait s i y n })
-  out p y n = let of = leaves y n in turned p y _ refl (inr of) (sleep_deep (after_wait s i y n) of.deep).0
+  out p y n = let of = leaves y n in turned p y _ refl (inr of) (λ h. absurd (false≢true (sym of.early ∙ h))) (sleep_deep (after_wait s i y n) (deep_untested (after_wait s i y n) of.early)).0
 
-  enters : (p : Place) (y : Stay) (busy : Bool) (landed : List ℕ) (wakes : WakePoll) → Waits p y (enter_ring y me d (record { busy = busy; landed = landed; wakes = wakes }))
+  enters : (y : Stay) (busy : Bool) (landed : List ℕ) (wakes : WakePoll) → Waits (at.RingWait ring.EnterRing y) y (enter_ring y me d (record { busy = busy; landed = landed; wakes = wakes }))
   enters = grind arith
 
   sleeps_there : (y : Stay) (x : Things) (b : Bool) → has_completion d (ring_of s x i) ≡ b → (come : Bool)
@@ -74,14 +80,21 @@ module _ (c : Configuration) (i : ℕ) (me : Books) (s : Common) (d : Desk) wher
     waits : (r : InRingWait) (y : Stay) → Waits (at.RingWait r y) y (move_ring_wait c i me s d x r y)
     waits ring.EnterFullRing y =
         waits_if (at.RingWait ring.EnterFullRing y) y (seat_of s i).busy _ _
-        (record { desk = refl; own = refl; plain = refl; lands = inl (_, refl); entered = λ h. absurd (false≢true h); slept = λ until is. no_sleep Busy refl until is })
-        (record { desk = refl; own = refl; plain = refl; lands = inl (_, refl); entered = λ h. absurd (false≢true h); slept = λ until is. no_sleep Enter refl until is })
-    waits ring.TestRing y =
-        let p = at.RingWait ring.TestRing y in
-        waits_if p y (has_submissions c me || (not d.polled && is_full (ring_size c) d)) _ _ (out p y next.Serve)
-        (turned p y _ (kept_if p y (d.polled || is_full (ring_size c) d) d (record (one_more d) { polled = true }) refl refl) (inl (_, refl)) refl)
-    waits ring.ArmRing y = let p = at.RingWait ring.ArmRing y in turned p y _ refl (inl (_, refl)) (not_to_sleep p y (is_idle_at (word_of x i) d.processed))
-    waits ring.EnterRing y = enters (at.RingWait ring.EnterRing y) y (seat_of s i).busy (seat_of s i).landed (wake_poll_of x i)
+        (record { desk = refl; own = refl; plain = refl; lands = inl (_, refl); tested = λ h. absurd (false≢true h); entered = λ h. absurd (false≢true h); slept = λ until is. no_sleep Busy refl until is })
+        (record { desk = refl; own = refl; plain = refl; lands = inl (_, refl); tested = λ h. absurd (false≢true h); entered = λ h. absurd (false≢true h); slept = λ until is. no_sleep Enter refl until is })
+    waits ring.TestRing y = by (has_submissions c me) refl
+      where
+        p : Place
+        p = at.RingWait ring.TestRing y
+
+        by : (b : Bool) → has_submissions c me ≡ b
+            → Waits p y (if b || (not d.polled && is_full (ring_size c) d) then turns {T = Own} (after_wait s i y next.Serve) d tt else turns {T = Own} (at.RingWait ring.ArmRing y) (with_poll (ring_size c) d) tt)
+        by true some = out p y next.Serve
+        by false none =
+            waits_if p y (not d.polled && is_full (ring_size c) d) _ _ (out p y next.Serve)
+            (turned p y _ (kept_if p y (d.polled || is_full (ring_size c) d) d (record (one_more d) { polled = true }) refl refl) (inl (_, refl)) (λ h. inr none) refl)
+    waits ring.ArmRing y = let p = at.RingWait ring.ArmRing y in turned p y _ refl (inl (_, refl)) (λ h. inl refl) (not_to_sleep p y (is_idle_at (word_of x i) d.processed))
+    waits ring.EnterRing y = enters y (seat_of s i).busy (seat_of s i).landed (wake_poll_of x i)
     waits ring.SleepOnRing y = sleeps_there y x (has_completion d (ring_of s x i)) refl (has_come s.clock (next_due s i))
     waits (ring.DisarmRing n) y = out (at.RingWait (ring.DisarmRing n) y) y n
 
@@ -92,7 +105,27 @@ module _ (c : Configuration) (i : ℕ) (me : Books) (s : Common) (d : Desk) wher
   closing_waits : (r : InRingWait) (e : Event) (choice : Choice) (q : Desk) → Was c i me s (at.RingWait r stay.Closing) d → has_tested q.place ≡ false
       → OnRing (at.RingWait r stay.Closing) stay.Closing e choice q
       → Settles c i me s (at.RingWait r stay.Closing) e choice q
-  closing_waits = grind arith
+  closing_waits r e choice q was out on =
+      record {
+        told = λ h. told_with me (own_after c me s i e choice) d q on.desk (ap (λ (k : OfBooks). k.ended) on.own) (was.told refl);
+        submitted = λ h. submitted_with c me (own_after c me s i e choice) on.own (submits (on.tested (ring_tested h)));
+        free = free on.lands;
+        busy = λ h. was.busy refl;
+        plain = λ h. on.plain;
+        entered = on.entered;
+        slept = λ until is h. on.slept until is;
+      }
+    where
+      submits : (has_tested_ring (at.RingWait r stay.Closing) ≡ true) ⊎ (has_submissions c me ≡ false) → HasSubmitted c me
+      submits (inl before) = was.submitted before
+      submits (inr none) = submitted_by c me none
+
+      free : Lands stay.Closing q.place → waits_on_word q.place ≡ true → has_requests i s ≡ false
+      free (inl there) h = absurd (false≢true (sym (ap waits_on_word there.1) ∙ h))
+      free (inr of) h = of.free h
+
+      ring_tested : has_submitted q.place ≡ true → has_tested_ring q.place ≡ true
+      ring_tested h = sym (ap (λ b. b || has_tested_ring q.place) out) ∙ h
 
   -- the end stays the end
   ends : Was c i me s (at.Closing closing.End) d → Settles c i me s (at.Closing closing.End) End Plain (record d { place = at.Closing closing.End })

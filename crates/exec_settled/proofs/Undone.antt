@@ -11,6 +11,10 @@ use Rattle.exec_machine.specs.{declared.state.{Request.Request, Sleeper.Sleeper}
 pub after_earlier : (clock : ℕ) (a b : Option ℕ) → is_after clock (earlier a b) ≡ true → (is_after clock a ≡ true) × (is_after clock b ≡ true)
 after_earlier = grind arith
 
+-- whether or not it waits for sleepers too
+pub first_ahead : (clock : ℕ) (b : Bool) (timer until : Option ℕ) → is_after clock (if b then earlier timer until else timer) ≡ true → is_after clock timer ≡ true
+first_ahead = grind (arith, after_earlier)
+
 pub none_due : (i clock : ℕ) (rs : List Request) → is_after clock (first_timer i rs) ≡ true → (k : ℕ) → is_due i clock (get_or rs k no_request) ≡ false
 none_due i clock [] h k = and_right (0 == i) false refl
 none_due i clock (r ∷ rs) h k = by (r.worker == i) refl h (λ h j. none_due i clock rs h j) k

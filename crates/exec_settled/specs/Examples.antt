@@ -1,10 +1,10 @@
 -- States to look at: workers that sleep, on a ring or on wake words, with one thing changed.
 use Rattle.std.specs.Prelude.{true, [], ◌∷◌, Some, slice_set}
 use Rattle.exec_outcomes.specs.declared.outcome.Outcome.TheVariants.{Success}
-use Rattle.exec_machine.specs.{declared.state.{Forwarding.TheVariants.Applied, Request.Request, Sleeper.Sleeper}, Tests.set_request, World.{Task, World, no_open, task_of}}
+use Rattle.exec_machine.specs.{declared.state.{Forwarding.TheVariants.Applied, Request.Request, Sleeper.Sleeper}, Tests.set_request, World.{Task, World, no_open, seat_of, task_of}}
 use Rattle.exec_machine.specs.declared.state.RequestPhase.TheVariants as phase
 use Rattle.exec_machine.specs.declared.state.Waiting.TheVariants as waiting
-use Rattle.exec_machine.specs.declared.state.WorkerPhase.TheVariants.{Ended}
+use Rattle.exec_machine.specs.declared.state.WorkerPhase.TheVariants.{Closing, Ended}
 use Rattle.exec_moves.specs.{declared.place.Place.{Place}, MailLogs.a_write, Plays.{Playing, desk_of}, State.{Desk, no_queue, no_word}, Thing.{set_queue, set_word}}
 use Rattle.exec_books.specs.Examples.{its_request, its_seat, one_asleep, with_seat}
 use Rattle.exec_rest.specs.Examples.{rested, two_waiting}
@@ -41,6 +41,13 @@ with_sleeper z = record rested { world = record rested.world { common = record r
 abbrev pub with_queue : Playing
 with_queue = record rested { things = set_queue 1 rested.things (record no_queue { values = 2 ∷ [] }) }
 
+-- Worker 1 is closing, with this request.
+abbrev pub closing_with : Request → Playing
+closing_with r =
+    let s = rested.world.common in
+    let seat = seat_of s 1 in
+    record rested { world = record rested.world { common = record s { seats = slice_set s.seats 1 (record seat { phase = Closing }); requests = r ∷ [] } } }
+
 -- A write of worker 1 is the first at the gate of its open, and has the permit: nobody signals that; or its wake word has a latch.
 abbrev pub with_permit : Playing
 with_permit =
@@ -48,6 +55,11 @@ with_permit =
       world = record rested.world { common = record rested.world.common { requests = a_write 1 ∷ []; opens = record no_open { holder = Some 0 } ∷ [] } };
       things = record rested.things { gates = (0 ∷ []) ∷ [] };
     }
+
+-- another one of its stands behind it
+abbrev pub with_two_writes : Playing
+with_two_writes =
+    record with_permit { world = record rested.world { common = record rested.world.common { requests = a_write 1 ∷ a_write 1 ∷ []; opens = record no_open { holder = Some 0; waiting = 1 ∷ [] } ∷ [] } } }
 
 abbrev pub with_permit_told : Playing
 with_permit_told = record with_permit { things = set_word 1 with_permit.things (record no_word { latch = true }) }

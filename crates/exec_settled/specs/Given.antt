@@ -79,6 +79,8 @@ module _ (c : Configuration) (x : Playing) where
     pub beds : (i z : ℕ) → is_in_slots z (desk_of c x i).timers ≡ true → (sleeper_of s z).fired ≡ false
     -- a wait on the ring ends with a turn or a service
     pub back : (i : ℕ) → ends_in_search (place_at c x i) ≡ false
+    -- a worker of the pool waits as one that closes only past the shutdown barrier
+    pub past : (i : ℕ) → stays_closing (place_at c x i) ≡ true → (seat_of s i).pool ≡ true → (seat_of s i).left ≡ true
     -- who is closing waits as one that closes, and who is open has a root that isn't over
     pub closing : (i : ℕ) → is_closing (seat_of s i).phase ≡ true → is_abed (place_at c x i) ≡ true → stays_closing (place_at c x i) ≡ true
     pub roots : (i : ℕ) → is_open (seat_of s i).phase ≡ true → is_abed (place_at c x i) ≡ true → is_done (task_of s (own_of x.world i).root).phase ≡ false

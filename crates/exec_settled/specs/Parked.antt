@@ -1,10 +1,11 @@
--- WHO SLEEPS HAS NOTHING TO DO, whatever others do meanwhile, or somebody's next step wakes it; and no request is forgotten.
+-- WHO SLEEPS HAS NOTHING TO DO, whatever others do meanwhile, or somebody's next step wakes it; who closes sleeps only while a request
+-- of its own is held up; and no request is forgotten.
 --
 -- Where all sleep there is nobody else who could go on. Where some never sleep, a wake that was lost would show in no state of
 -- that kind: so of each worker that sleeps by itself it is said here that nothing is left for it to do. In between, while it is
 -- being woken, it is known whose step comes next.
-use Rattle.std.specs.Prelude.{◌≡◌, ℕ, Bool, true, false, ◌||◌, ◌⊎◌, [], slice_get, Some}
-use Rattle.exec_machine.specs.{declared.{config.Configuration.Configuration}, Progress.{has_to_close, is_cancel_untold, is_request_unfinished, is_runnable, is_sleeper_unfinished}, Tests.{is_done, is_gated, is_landed, is_open, is_resolved, is_staged}, World.{Common, Task, World, open_of, own_of, request_of, seat_of, sleeper_of, task_of}}
+use Rattle.std.specs.Prelude.{◌≡◌, ◌≢◌, ℕ, Bool, true, false, ◌||◌, ◌⊎◌, [], nat_lt, slice_get, Some}
+use Rattle.exec_machine.specs.{declared.{config.Configuration.Configuration}, Progress.{has_to_close, is_cancel_untold, is_request_unfinished, is_runnable, is_sleeper_unfinished}, Ranges.ring_size, Tests.{is_closing, is_done, is_flying, is_gated, is_landed, is_open, is_queued, is_resolved, is_staged}, World.{Common, Task, World, open_of, own_of, request_of, seat_of, sleeper_of, task_of}}
 use Rattle.exec_machine.specs.declared.state.Forwarding.TheVariants.{Sent}
 use Rattle.exec_machine.specs.declared.state.MailMessage.TheVariants as message
 use Rattle.exec_machine.specs.declared.state.Next.TheVariants as next
@@ -28,9 +29,8 @@ pub data IsBeingWoken (c : Configuration) (x : Playing) (i : ℕ) : Type 0 where
   Passed : (k : ℕ) → IsPassedOn c x k i → IsBeingWoken c x i
   Handed : IsHanded c x i → IsBeingWoken c x i
 
--- A worker that is open and sleeps, and whom nobody wakes next.
+-- A worker that sleeps, and whom nobody wakes next.
 pub record IsParked (c : Configuration) (x : Playing) (i : ℕ) : Type 0 where
-  pub opened : is_open (seat_of x.world.common i).phase ≡ true
   pub asleep : sleeps c x i ≡ true
   pub left : IsBeingWoken c x i → ⊥
 
@@ -42,6 +42,14 @@ module _ (c : Configuration) (x : Playing) where
   abbrev pub IsUp : ℕ → Type 0
   IsUp t = (is_runnable (task_of s t).phase ≡ true) ⊎ ((j : ℕ) × (place_at c x j ≡ Place.Poll t InPoll.Resume))
 
+  -- A REQUEST THAT ISN'T OVER IS HELD UP: it is with the kernel; or it waits for a place in the ring of its worker, where there is
+  -- none; or for the permit of its open, which another one has that isn't over.
+  pub data IsHeldUp (k : ℕ) : Type 0 where
+    WithKernel : is_flying (request_of s k).phase ≡ true → IsHeldUp k
+    WaitsForPlace : is_queued (request_of s k).phase ≡ true → nat_lt (own_of x.world (request_of s k).worker).in_flight (ring_size c) ≡ false → IsHeldUp k
+    WaitsForPermit : (h : ℕ) → is_gated (request_of s k).phase ≡ true → (open_of s (request_of s k).operation.target).holder ≡ Some h → h ≢ k → is_resolved (request_of s h).phase ≡ false → IsHeldUp k
+
+  -- an open worker
   pub record HasNothingToDo (i : ℕ) : Type 0 where
     -- it was not signalled, has no message, and nothing lies in its run queue
     pub unsignalled : is_latched c x i ≡ false
@@ -57,6 +65,14 @@ module _ (c : Configuration) (x : Playing) where
     pub came : (t k : ℕ) → WaitsFor s t (waiting.Request k) → (request_of s k).worker ≡ i → is_resolved (request_of s k).phase ≡ true → IsUp t
     pub fired : (t z : ℕ) → WaitsFor s t (waiting.Timer z) → (sleeper_of s z).worker ≡ i → (sleeper_of s z).fired ≡ true → IsUp t
 
+  -- a closing one
+  pub record WaitsForRequest (i : ℕ) : Type 0 where
+    -- it was not signalled, and nothing is unfinished of its requests
+    pub unsignalled : is_latched c x i ≡ false
+    pub requests : (k : ℕ) → (request_of s k).worker ≡ i → is_request_unfinished c x.world k (request_of s k) ≡ false
+    -- one of them isn't over
+    pub some : (k : ℕ) × ((request_of s k).worker ≡ i) × (is_resolved (request_of s k).phase ≡ false)
+
   -- The kernel has all that it staged, and was told its cancels; and it has taken in all that landed.
   pub record HasEnteredAll (i : ℕ) : Type 0 where
     pub requests : (k : ℕ) → (request_of s k).worker ≡ i → (is_staged (request_of s k).phase ≡ false) × (is_landed (request_of s k).phase ≡ false)
@@ -66,7 +82,10 @@ module _ (c : Configuration) (x : Playing) where
   IsPoolAtWork = (i : ℕ) → is_in_pool c x i ≡ true → is_open (seat_of s i).phase ≡ true
 
   pub record NobodySleepsOnWork : Type 0 where
-    pub parked : (i : ℕ) → IsParked c x i → HasNothingToDo i
+    pub parked : (i : ℕ) → is_open (seat_of s i).phase ≡ true → IsParked c x i → HasNothingToDo i
+    pub closing : (i : ℕ) → is_closing (seat_of s i).phase ≡ true → IsParked c x i → WaitsForRequest i
+    -- and each request of theirs that isn't over is held up
+    pub held_up : (k : ℕ) → is_resolved (request_of s k).phase ≡ false → IsParked c x (request_of s k).worker → IsHeldUp k
     -- so it is with the kernel of whoever sleeps, also of one that closes or is woken next
     pub entered : (i : ℕ) → sleeps c x i ≡ true → HasEnteredAll i
     -- while something lies in the global queue somebody looks for a worker, or one of the pool is awake or is woken next, until

@@ -2,8 +2,8 @@
 -- that as the gate is left, by the next step of the worker that has it, which then puts the latch into the wake word of the next
 -- holder's worker. That takes the latch out only where a service is ahead, in which it looks at the gates of its requests, one after the other.
 use Rattle.std.specs.Prelude.{◌≡◌, ℕ, Bool, true, false, not, ◌||◌, ◌⊎◌, nat_lt, slice_get, Option, Some, None}
-use Rattle.exec_machine.specs.{declared.config.Configuration.Configuration, Tests.{is_gated, is_open}, World.{Common, open_of, request_of, seat_of}}
-use Rattle.exec_moves.specs.{declared.{handing.{AfterCallbacks.AfterCallbacks, AfterClaim.AfterClaim, AfterKick.AfterKick, AfterLeave.AfterLeave, AfterPush.AfterPush, AfterSignal.AfterSignal}, idling.{AfterWait.AfterWait, Stay.Stay}, place.{AfterPermit.AfterPermit, AfterService.AfterService, InService.InService, Place.Place, Reaping.Reaping, Round.Round}}, Plays.Playing, State.gate_of}
+use Rattle.exec_machine.specs.{declared.config.Configuration.Configuration, Tests.{is_gated}, World.{Common, open_of, request_of}}
+use Rattle.exec_moves.specs.{declared.{handing.{AfterCallbacks.AfterCallbacks, AfterClaim.AfterClaim, AfterKick.AfterKick, AfterLeave.AfterLeave, AfterPush.AfterPush, AfterSignal.AfterSignal}, idling.{AfterWait.AfterWait}, place.{AfterPermit.AfterPermit, AfterService.AfterService, InService.InService, Place.Place, Reaping.Reaping, Round.Round}}, Plays.Playing, State.gate_of}
 use Rattle.exec_rest.specs.Rested.{is_latched, place_at}
 use Rattle.exec_settled.specs.Given.{gives_up, passes_at}
 
@@ -28,13 +28,11 @@ is_past_in file InService.EnterLast = true
 is_past_in file InService.EndService = true
 is_past_in file _ = false
 
--- after the service of a turn come the mailbox, the callbacks and the test; after any other another turn
-abbrev pub is_of_turn : AfterService → Bool
-is_of_turn AfterService.Mail = true
-is_of_turn _ = false
-
+-- after the service of a turn come the mailbox, the callbacks and the test, and after that of a closing worker the callbacks and
+-- a wait on its ring; after any other another turn
 abbrev pub is_past_callbacks : AfterCallbacks → Bool
 is_past_callbacks AfterCallbacks.Test = true
+is_past_callbacks AfterCallbacks.Finish = true
 is_past_callbacks _ = false
 
 abbrev pub is_past_push : AfterPush → Bool
@@ -59,7 +57,8 @@ is_past file (Place.Service p v) = is_past_at file p v.back
   where
     is_past_at : ℕ → InService → AfterService → Bool
     is_past_at file p AfterService.Mail = is_past_in file p
-    is_past_at file p _ = false
+    is_past_at file p AfterService.Finish = is_past_in file p
+    is_past_at file p AfterService.Begin = false
 is_past file (Place.Mail p) = true
 is_past file (Place.Callbacks p n) = is_past_callbacks n
 is_past file (Place.Loads p Round.Second) = true
@@ -68,7 +67,7 @@ is_past file Place.ReadClock = true
 is_past file (Place.Search p) = true
 is_past file (Place.Scan p) = true
 is_past file (Place.Look p) = true
-is_past file (Place.RingWait p Stay.Turn) = true
+is_past file (Place.RingWait p y) = true
 is_past file (Place.WordWait p) = true
 is_past file (Place.Withdraw AfterWait.Search) = true
 is_past file (Place.LeaveSearch b) = is_past_leave b
@@ -100,5 +99,5 @@ module _ (c : Configuration) (x : Playing) where
     -- a holder that is over leaves its gate next
     pub passed : (file k : ℕ) → slice_get (gate_of x.things file) 0 ≡ Some k → gives_up (request_of s k) ≡ true → IsPassing file
     -- a request that has a permit and wasn't granted it: its worker is told, or was told, or looks at the gate in a service that is ahead
-    pub granted : (k : ℕ) → let it = request_of s k in is_gated it.phase ≡ true → (open_of s it.operation.target).holder ≡ Some k → is_open (seat_of s it.worker).phase ≡ true
+    pub granted : (k : ℕ) → let it = request_of s k in is_gated it.phase ≡ true → (open_of s it.operation.target).holder ≡ Some k
         → IsPassing it.operation.target ⊎ (IsHanded it.worker ⊎ ((is_latched c x it.worker || not (is_past it.operation.target (place_at c x it.worker))) ≡ true))

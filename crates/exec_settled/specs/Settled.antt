@@ -29,7 +29,7 @@ pub record HasEntered (i : ℕ) (me : Own) (s : Common) : Type 0 where
   pub untold : me.untold ≡ []
   pub staged : (k : ℕ) → (request_of s k).worker ≡ i → is_staged (request_of s k).phase ≡ false
 
--- it waits on its wake word; or on its ring, as a worker that closes or as any; or its wait on the ring ends next
+-- it waits on its wake word; its wait on the ring ends next; it is past the test with which that began
 abbrev pub waits_on_word : Place → Bool
 waits_on_word (Place.WordWait p) = true
 waits_on_word _ = false
@@ -38,11 +38,24 @@ abbrev pub ends_ring_wait : Place → Bool
 ends_ring_wait (Place.RingWait (InRingWait.DisarmRing n) y) = true
 ends_ring_wait _ = false
 
+abbrev pub has_tested_ring : Place → Bool
+has_tested_ring (Place.RingWait InRingWait.EnterFullRing y) = false
+has_tested_ring (Place.RingWait InRingWait.TestRing y) = false
+has_tested_ring (Place.RingWait p y) = true
+has_tested_ring _ = false
+
+-- Its last test, or the callbacks before its end or before a wait as one that closes, found nothing to tell; and that test, or the
+-- one with which a wait on its ring begins, nothing to submit.
+abbrev pub has_told : Place → Bool
+has_told p = has_tested p || is_end p || stays_closing p
+
+abbrev pub has_submitted : Place → Bool
+has_submitted p = has_tested p || has_tested_ring p
+
 module _ (c : Configuration) (x : Playing) where
   pub record IsSettled : Type 0 where
-    -- its last test, or the callbacks before its end, found nothing
-    pub told : (i : ℕ) → (has_tested (place_at c x i) || is_end (place_at c x i)) ≡ true → HasTold (own_of x.world i) (desk_of c x i)
-    pub submitted : (i : ℕ) → has_tested (place_at c x i) ≡ true → HasSubmitted c (own_of x.world i)
+    pub told : (i : ℕ) → has_told (place_at c x i) ≡ true → HasTold (own_of x.world i) (desk_of c x i)
+    pub submitted : (i : ℕ) → has_submitted (place_at c x i) ≡ true → HasSubmitted c (own_of x.world i)
     -- on its wake word it has no request that isn't over, and a closing one waits on its ring for one
     pub free : (i : ℕ) → waits_on_word (place_at c x i) ≡ true → has_requests i x.world.common ≡ false
     pub busy : (i : ℕ) → stays_closing (place_at c x i) ≡ true → has_requests i x.world.common ≡ true

@@ -10,6 +10,7 @@ ghost use Rattle.exec_moves.specs.declared.handing.{AfterSignal.{AfterSignal}, I
 ghost use Rattle.exec_moves.specs.declared.idling.AfterWait.{AfterWait, TheVariants.Begin};
 ghost use Rattle.exec_moves.specs.declared.idling.{InRingWait.InRingWait, InWordWait.InWordWait};
 ghost use Rattle.exec_moves.specs.declared.idling.InRingWait.TheVariants as ring;
+ghost use Rattle.exec_moves.specs.declared.idling.Stay.{Stay};
 ghost use Rattle.exec_moves.specs.declared.idling.Stay.TheVariants as stay;
 ghost use Rattle.exec_moves.specs.declared.place.{AfterPermit.AfterPermit, Service.Service};
 ghost use Rattle.exec_moves.specs.declared.place.AfterService.TheVariants as back;
@@ -17,16 +18,16 @@ ghost use Rattle.exec_moves.specs.declared.place.InService.TheVariants as servic
 ghost use Rattle.exec_moves.specs.declared.place.Place.TheVariants as at;
 ghost use Rattle.exec_books.specs.Examples.{one_send, its_own, its_request, with_own};
 ghost use Rattle.exec_rest.specs.Examples.{rested, two_waiting, with_a_latch, with_a_message, with_a_runnable};
-ghost use Rattle.exec_settled.specs.{Awaited.IsAwaited, Given.{IsGiven, NobodyWaitsInVain, passes_at}, Parked.{IsBeingWoken, IsParked, NobodySleepsOnWork, NoneIsForgotten}};
+ghost use Rattle.exec_settled.specs.{Awaited.IsAwaited, Given.{IsGiven, NobodyWaitsInVain, passes_at}, Parked.{IsBeingWoken, IsHeldUp, IsParked, NobodySleepsOnWork, NoneIsForgotten}};
 ghost use Rattle.exec_settled.specs.Permits.{IsPermitted, hands_to, is_past};
 ghost use Rattle.exec_rest.specs.AtRest.{stays_closing};
 ghost use Rattle.exec_settled.specs.Settled.{HaveLetGo, IsSettled, ends_ring_wait};
-ghost use Rattle.exec_settled.specs.Examples.{acting, ended_with, its_root, on_ring, second, with_second, with_sleeper};
-ghost use Rattle.exec_settled.specs.Examples.{waits_elsewhere, waits_for, waits_here, with_permit, with_permit_told, with_queue, with_root};
+ghost use Rattle.exec_settled.specs.Examples.{acting, closing_with, ended_with, its_root, on_ring, second, with_second, with_sleeper};
+ghost use Rattle.exec_settled.specs.Examples.{waits_elsewhere, waits_for, waits_here, with_permit, with_permit_told, with_queue, with_root, with_two_writes};
 
 /// What is known of a worker by its place. In the service of a turn it has passed the gate of open 0 once it is to look
-/// at gate 1, not before; in any other service it hasn't, since another turn comes then, nor where a turn begins. Who
-/// waits on its wake word has passed all gates, and who waits on its ring while it closes none. Who leaves the gate of
+/// at gate 1, not before, and so in that of a worker that closes; in any other service it hasn't, since another turn comes
+/// then, nor where a turn begins. Who waits on its wake word or on its ring has passed all gates. Who leaves the gate of
 /// open 3 passes its permit on, and who signals worker 1 after that hands it one, which other signals don't. A wait on
 /// the ring ends next where the wait bits go out of the wake word.
 pub fn places()
@@ -35,7 +36,9 @@ pub fn places()
     ensures past_gate { is_past 0 (at.Service (service.Submit 1) (record { defer = false; back = back.Mail })) ≡ true }
     ensures turns { is_past 0 (at.Service (service.Submit 1) (record { defer = false; back = back.Begin })) ≡ false }
     ensures waits_past { (p : InWordWait) → is_past 0 (at.WordWait p) ≡ true }
-    ensures closes { (p : InRingWait) → is_past 0 (at.RingWait p stay.Closing) ≡ false }
+    ensures finishes { is_past 0 (at.Service (service.Submit 1) (record { defer = false; back = back.Finish })) ≡ true }
+    ensures finishes_later { is_past 0 (at.Service (service.Submit 0) (record { defer = false; back = back.Finish })) ≡ false }
+    ensures waits_on_ring { (p : InRingWait) (y : Stay) → is_past 0 (at.RingWait p y) ≡ true }
     ensures passes { (b : AfterPermit) → (v : Service) → passes_at (at.Service (service.PassPermit 3 b) v) ≡ Some 3 }
     ensures hands { (b : AfterPermit) → (v : Service) → hands_to (at.Service (service.Signal 1 b) v) ≡ Some 1 }
     ensures hands_none { (b : AfterSignal) → hands_to (at.Signal SetLatch 1 b) ≡ None }
@@ -123,4 +126,17 @@ pub fn an_end()
     ensures let_go { HaveLetGo (ended_with (record its_request { phase = Resolved Success; released = true })) }
     ensures unreleased { HaveLetGo (ended_with (record its_request { phase = Resolved Success })) → ⊥ }
     ensures flying { HaveLetGo (ended_with (record its_request { released = true })) → ⊥ }
+{}
+
+/// A request that isn't over is held up where the kernel has it, and where another one has the permit that it waits for. It is not
+/// where it may be staged, nor where it has the permit. A worker that closes and sleeps, and whom nobody wakes next, is refused
+/// where its only request is over, or may be staged.
+pub fn a_close_asleep()
+    ensures flying { IsHeldUp two_waiting.config (waits_for (record its_request { worker = 1 })) 0 }
+    ensures behind { IsHeldUp two_waiting.config with_two_writes 1 }
+    ensures queued { IsHeldUp two_waiting.config (waits_for (record its_request { worker = 1; phase = Queued })) 0 → ⊥ }
+    ensures first { IsHeldUp two_waiting.config with_two_writes 0 → ⊥ }
+    ensures over { NobodySleepsOnWork two_waiting.config
+        (closing_with (record its_request { worker = 1; phase = Resolved Success; released = true })) → ⊥ }
+    ensures unstaged { NobodySleepsOnWork two_waiting.config (closing_with (record its_request { worker = 1; phase = Queued })) → ⊥ }
 {}

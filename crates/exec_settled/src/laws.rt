@@ -20,7 +20,8 @@ pub fn what_is_settled_stays_so()
         Follows c x.world a it.0.said it.1 → IsGiven c (by_step c x a).next → IsAwaited c x → IsAwaited c (by_step c x a).next }
 {}
 
-/// Whoever sleeps has nothing to do, whatever the others do meanwhile, or somebody's next step wakes it. While something lies
+/// Whoever sleeps has nothing to do, whatever the others do meanwhile, or somebody's next step wakes it; and who closes sleeps
+/// only while a request of its own isn't over, each of which is held up. While something lies
 /// in the global queue somebody looks for a worker, or one of the pool is awake or is woken next. And no request is forgotten,
 /// whether anybody sleeps or not.
 pub fn nobody_sleeps_on_work()

@@ -44,6 +44,7 @@ returns-clause-booked c =
     record {
       listed = listed;
       lined_up = lined_up;
+      led = λ file none. refl;
       timed = each_request (λ r. is_resolved r.phase ≡ true → r.timer ≡ None) (λ h. absurd (false≢true h)) (λ h. refl);
       undated = each_request (λ r. is_of_file r.operation.kind ≡ true → (r.operation.deadline ≡ None) × (r.timer ≡ None)) (λ h. absurd (false≢true h)) (λ h. absurd (false≢true h));
       let_go = each_request (λ r. r.released ≡ true → is_resolved r.phase ≡ true) (λ h. absurd (false≢true h)) (λ h. refl);

@@ -1,6 +1,6 @@
 use Rattle.std.proofs.Common.{refl, ap, arith, inl, inr, unwrap_or}
 use Rattle.std.proofs.lemmas.Bool.{true≢false, false≢true}
-use Rattle.exec_machine.specs.{Same.is_none, Tests.is_settled}
+use Rattle.exec_machine.specs.{Same.is_none, Tests.{is_empty, is_settled}}
 use Rattle.exec_books.proofs.examples.wrong_books.Goals as goal
 
 pub returns : goal.returns
@@ -9,6 +9,7 @@ returns c =
       listed = λ it. false≢true ((it.listed 0).queued refl);
       gated = λ it. elim ((it.lined_up 0).waits refl (omega arith)) [ inl stands ↦ false≢true stands | inr joins ↦ true≢false (ap is_settled joins) ];
       permit = λ it. absurd (omega (arith, ap (λ o. unwrap_or o 0) ((it.lined_up 0).has refl refl refl (omega arith))));
+      unled = λ it. false≢true (ap is_empty (it.led 0 refl));
       timed = λ it. false≢true (ap is_none (it.timed 0 refl));
       undated = λ it. false≢true (ap is_none (it.undated 0 refl).0);
       let_go = λ it. false≢true (it.let_go 0 refl);

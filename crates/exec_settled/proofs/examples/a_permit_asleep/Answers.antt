@@ -7,7 +7,7 @@ use Rattle.exec_settled.proofs.TwoAsleep.{each, is_at}
 use Rattle.exec_settled.proofs.examples.a_permit_asleep.Goals as goal
 
 left : IsPermitted two_waiting.config with_permit → ⊥
-left it = elim (it.granted 0 refl refl refl) [
+left it = elim (it.granted 0 refl refl) [
   | inl passing ↦ none-some 0 (sym (is_at passes_at None refl refl passing.0) ∙ passing.1)
   | inr (inl handed) ↦ none-some 1 (sym (is_at hands_to None refl refl handed.0) ∙ handed.1)
   | inr (inr ahead) ↦ false≢true ahead
@@ -19,4 +19,4 @@ returns c =
     let told = each (λ k. let it = request_of x.world.common k in is_gated it.phase ≡ true → (is_latched two_waiting.config x it.worker || not (is_past it.operation.target (place_at two_waiting.config x it.worker))) ≡ true)
     (λ gated. refl) (λ gated. absurd (false≢true gated)) (λ k gated. absurd (false≢true gated)) in
     let keeps = each (λ k. gives_up (request_of x.world.common k) ≡ false) refl refl (λ k. refl) in
-    record { left = left; told = record { passed = λ file k first gives. absurd (false≢true (sym (keeps k) ∙ gives)); granted = λ k gated holds opened. inr (inr (told k gated)) } }
+    record { left = left; told = record { passed = λ file k first gives. absurd (false≢true (sym (keeps k) ∙ gives)); granted = λ k gated holds. inr (inr (told k gated)) } }

@@ -13,27 +13,27 @@ abbrev two : Configuration
 two = two_waiting.config
 
 left : IsParked two rested 1
-left = record { opened = refl; asleep = refl; left = undisturbed rested.world rested.things 1 }
+left = record { asleep = refl; left = undisturbed rested.world rested.things 1 }
 
 unread : NobodySleepsOnWork two with_a_message → ⊥
 unread it =
-    let parked : IsParked two with_a_message 1 = record { opened = refl; asleep = refl; left = undisturbed with_a_message.world with_a_message.things 1 } in
-    false≢true (ap is_empty (it.parked 1 parked).messages)
+    let parked : IsParked two with_a_message 1 = record { asleep = refl; left = undisturbed with_a_message.world with_a_message.things 1 } in
+    false≢true (ap is_empty (it.parked 1 refl parked).messages)
 
 unrung : NobodySleepsOnWork two with_a_latch → ⊥
 unrung it =
-    let parked : IsParked two with_a_latch 1 = record { opened = refl; asleep = refl; left = undisturbed with_a_latch.world with_a_latch.things 1 } in
-    true≢false (it.parked 1 parked).unsignalled
+    let parked : IsParked two with_a_latch 1 = record { asleep = refl; left = undisturbed with_a_latch.world with_a_latch.things 1 } in
+    true≢false (it.parked 1 refl parked).unsignalled
 
 ungranted : NobodySleepsOnWork two with_permit → ⊥
 ungranted it =
-    let parked : IsParked two with_permit 1 = record { opened = refl; asleep = refl; left = undisturbed with_permit.world with_permit.things 1 } in
-    true≢false ((it.parked 1 parked).requests 0 refl)
+    let parked : IsParked two with_permit 1 = record { asleep = refl; left = undisturbed with_permit.world with_permit.things 1 } in
+    true≢false ((it.parked 1 refl parked).requests 0 refl)
 
 unheard : NobodySleepsOnWork two waits_here → ⊥
 unheard it =
-    let parked : IsParked two waits_here 1 = record { opened = refl; asleep = refl; left = undisturbed waits_here.world waits_here.things 1 } in
-    elim ((it.parked 1 parked).came 1 0 (record { going = refl; waits = refl }) refl refl) [
+    let parked : IsParked two waits_here 1 = record { asleep = refl; left = undisturbed waits_here.world waits_here.things 1 } in
+    elim ((it.parked 1 refl parked).came 1 0 (record { going = refl; waits = refl }) refl refl) [
       | inl runs ↦ false≢true runs
       | inr looks ↦ none-some 1 (sym (polls_none looks.0) ∙ ap polls_at looks.1)
     ]
@@ -44,31 +44,31 @@ unheard it =
 unpolled : NobodySleepsOnWork two (with_root (record its_root { phase = phase.Queued })) → ⊥
 unpolled it =
     let x = with_root (record its_root { phase = phase.Queued }) in
-    let parked : IsParked two x 1 = record { opened = refl; asleep = refl; left = undisturbed x.world x.things 1 } in
-    true≢false ((it.parked 1 parked).root 1 (record its_root { phase = phase.Queued }) refl refl).0
+    let parked : IsParked two x 1 = record { asleep = refl; left = undisturbed x.world x.things 1 } in
+    true≢false ((it.parked 1 refl parked).root 1 (record its_root { phase = phase.Queued }) refl refl).0
 
 unseen : NobodySleepsOnWork two (with_root (record its_root { fresh = false })) → ⊥
 unseen it =
     let x = with_root (record its_root { fresh = false }) in
-    let parked : IsParked two x 1 = record { opened = refl; asleep = refl; left = undisturbed x.world x.things 1 } in
-    false≢true ((it.parked 1 parked).root 1 (record its_root { fresh = false }) refl refl).1
+    let parked : IsParked two x 1 = record { asleep = refl; left = undisturbed x.world x.things 1 } in
+    false≢true ((it.parked 1 refl parked).root 1 (record its_root { fresh = false }) refl refl).1
 
 unclosed : NobodySleepsOnWork two (with_root (record its_root { phase = phase.Done })) → ⊥
 unclosed it =
     let x = with_root (record its_root { phase = phase.Done }) in
-    let parked : IsParked two x 1 = record { opened = refl; asleep = refl; left = undisturbed x.world x.things 1 } in
-    true≢false (it.parked 1 parked).stays
+    let parked : IsParked two x 1 = record { asleep = refl; left = undisturbed x.world x.things 1 } in
+    true≢false (it.parked 1 refl parked).stays
 
 unfired : NobodySleepsOnWork two (with_sleeper (new_sleeper 0 1 1)) → ⊥
 unfired it =
     let x = with_sleeper (new_sleeper 0 1 1) in
-    let parked : IsParked two x 1 = record { opened = refl; asleep = refl; left = undisturbed x.world x.things 1 } in
-    true≢false ((it.parked 1 parked).sleepers 0 refl)
+    let parked : IsParked two x 1 = record { asleep = refl; left = undisturbed x.world x.things 1 } in
+    true≢false ((it.parked 1 refl parked).sleepers 0 refl)
 
 unpicked : NobodySleepsOnWork two with_queue → ⊥
 unpicked it =
-    let parked : IsParked two with_queue 1 = record { opened = refl; asleep = refl; left = undisturbed with_queue.world with_queue.things 1 } in
-    false≢true (ap is_empty (it.parked 1 parked).queue)
+    let parked : IsParked two with_queue 1 = record { asleep = refl; left = undisturbed with_queue.world with_queue.things 1 } in
+    false≢true (ap is_empty (it.parked 1 refl parked).queue)
 
 -- all of the pool sleep, and nobody looks for one
 uncovered : NobodySleepsOnWork two with_a_runnable → ⊥

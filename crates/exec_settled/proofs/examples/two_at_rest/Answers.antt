@@ -41,6 +41,7 @@ given =
       slots = λ k h. absurd (true≢false h);
       beds = λ i z h. absurd (false≢true (sym (each (λ i. is_in_slots z (desk_of two_waiting.config rested i).timers ≡ false) refl refl (λ i. refl) i) ∙ h));
       back = is_at ends_in_search false refl refl;
+      past = λ i. not_at stays_closing refl refl i;
       closing = λ i h. absurd (false≢true (sym (each (λ i. is_closing (seat_of s i).phase ≡ false) refl refl (λ i. refl) i) ∙ h));
       roots = each (λ i. is_open (seat_of s i).phase ≡ true → is_abed (place_at two_waiting.config rested i) ≡ true → is_done (task_of s (own_of rested.world i).root).phase ≡ false)
           (λ opened abed. refl) (λ opened abed. refl) (λ i opened. absurd (false≢true opened));
@@ -54,7 +55,7 @@ done =
     (λ i. (record { wakes = refl; outputs = refl; ended = refl; completions = refl; results = refl }, record { unenrolled = refl; cancels = refl; unstaged = refl }))
 
 permitted : IsPermitted two_waiting.config rested
-permitted = record { passed = λ file k there gives. absurd (none-some k there); granted = λ k h holds opened. absurd (false≢true h) }
+permitted = record { passed = λ file k there gives. absurd (none-some k there); granted = λ k h holds. absurd (false≢true h) }
 
 awaited : IsAwaited two_waiting.config rested
 awaited =
@@ -124,7 +125,9 @@ returns c =
           };
       parked =
           record {
-            parked = λ i it. idle i;
+            parked = λ i opened it. idle i;
+            closing = λ i closes. absurd (false≢true (sym (each (λ i. is_closing (seat_of s i).phase ≡ false) refl refl (λ i. refl) i) ∙ closes));
+            held_up = λ k going. absurd (true≢false going);
             entered = λ i asleep. record { requests = λ k own. (refl, refl); cancels = each (λ i. is_cancel_untold s (own_of rested.world i) ≡ false) refl refl (λ i. refl) i };
             pool = λ opened some. absurd (some refl);
           };
