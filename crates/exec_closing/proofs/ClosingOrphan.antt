@@ -1,5 +1,5 @@
 -- A closing worker lets go of the request in the first slot that somebody holds, and wakes who waits for it, as a step of the machine.
-use Rattle.std.{proofs.{Common.{◌≡◌, ◌⊎◌, inl, inr, ℕ, ◌+◌, ◌≤◌, ◌==◌, ◌&&◌, ◌||◌, Bool, true, false, not, cond, List, [], ◌++◌, count_by, length, map, option_map, Option, Some, None, IsSome, is_some, refl, sym, ap, subst, ◌∙◌, arith, slice_get, slice_set, if◌then◌else◌}, lemmas.{Bool.{false≢true, eq-eqb}, List.{append-nil, length-append, map-append}}}, specs.Vec.vec_capacity}
+use Rattle.std.{proofs.{Common.{◌≡◌, ◌⊎◌, inl, inr, ℕ, ◌+◌, ◌≤◌, ◌==◌, ◌&&◌, ◌||◌, Bool, true, false, not, cond, List, [], ◌++◌, count_by, length, map, option_map, Option, Some, None, IsSome, is_some, refl, sym, ap, subst, ◌∙◌, arith, slice_get, slice_set, if◌then◌else◌}, lemmas.{Bool.{false≢true, eq-eqb}, List.{append-nil, length-append, map-append}}}, specs.VecDeque.deque_capacity}
 use Rattle.exec_base.specs.{Slab.value_at, declared.{slab.Id.Id, task_no.TaskNo.TaskNo}}
 use Rattle.exec_waiters.specs.{Events.{told_by_orphan, waker_at, waker_in}, States.is_held_at, Told.{Tells, tasks_of}, declared.{waiter.Entry.{Entry, TheVariants.{Pending, Ready}}, waiter_id.WaiterId.WaiterId}}
 use Rattle.exec_driver.specs.{Driving.Driving, Steps.{let_go, told_by_let_go}}
@@ -70,7 +70,7 @@ module _ {B : Type 0} (w w' : Worker) (s s' : Shared B) (e : Event) (sound : Sou
       let adds = by.tells in
       let wakes = sym (ap (λ ws. w.home.deferred.notes.wakes.items ++ ws) told.none ∙ append-nil w.home.deferred.notes.wakes.items) in
       let completions = adds.notes.completions_added ∙ ap (λ cs. w.home.deferred.notes.completions.items ++ cs) told.completions in
-      let memory : vec_capacity w.home.deferred.notes.wakes ≤ vec_capacity w.home.deferred.notes.wakes = omega arith in
+      let memory : deque_capacity w.home.deferred.notes.wakes ≤ deque_capacity w.home.deferred.notes.wakes = omega arith in
       let outputs = adds.outputs_added ∙ ap (λ os. w.home.deferred.outputs.items ++ os) told.outputs in
       let resources = adds.resources_added ∙ ap (λ os. w.home.deferred.resources.items ++ os) told.resources in
       let results = adds.results_added ∙ ap (λ os. w.home.deferred.results.items ++ os) told.results in

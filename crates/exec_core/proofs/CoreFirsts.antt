@@ -21,7 +21,18 @@ one_more xs ys x y same = length-append xs (x ∷ []) ∙ ap (λ n. n + 1) same 
 
 pub begin_more : (c : Configuration) (rs : List Runnable) (ws : List Worker) (r : Runnable) (w : Worker) → AllBegin c rs ws → Begins c (Pool (length ws)) (length ws) (length ws) r 0 w → AllBegin c (rs ++ r ∷ []) (ws ++ w ∷ [])
 begin_more c rs ws r w all begins =
-    grind (arith, one_more, last_or_before, get_front, found_last)
+    record {
+      many = one_more ws rs w r all.many;
+      each = λ i v there.
+          elim (last_or_before ws i w v there) [
+            | inl found ↦ let it = all.each i v found in (it.0, get_front rs (r ∷ []) i it.0 it.1, it.2)
+            | inr last ↦ (
+              r,
+              ap (slice_get (rs ++ r ∷ [])) (last.0 ∙ all.many) ∙ found_last rs r,
+              subst (λ k. Begins c (Pool k) k k r 0 v) (sym last.0) (subst (Begins c (Pool (length ws)) (length ws) (length ws) r 0) last.1 begins),
+            )
+          ];
+    }
 
 module _ {B : Type 0} where
   -- SEATS AND ROOTS

@@ -341,7 +341,7 @@ impl Requests {
                 same(
                     rt,
                     at,
-                    &told.notes.wakes.as_slice(),
+                    &told.notes.wakes.as_slices().0,
                     &[TaskNo(task)].as_slice(),
                 );
             }
@@ -361,15 +361,15 @@ fn is_found(seen: &Observation<RequestOutput>, found: Found) -> bool {
 
 /// Which request owned what was let go first.
 fn first_retired(told: &Deferred<u32, u32>) -> Option<WaiterId> {
-    Some(told.resources.first()?.id)
+    Some(told.resources.front()?.id)
 }
 
 /// By whom the first outcome is sent.
 fn first_sender(told: &Deferred<u32, u32>) -> Option<u32> {
-    Some(told.notes.completions.first()?.sender)
+    Some(told.notes.completions.front()?.sender)
 }
 
 /// Whether the first result that is to be sent is `Closed`.
 fn is_refused(told: &Deferred<u32, u32>) -> bool {
-    matches!(told.results.first(), Some(answer) if matches!(&answer.result, Err(Error::Closed)))
+    matches!(told.results.front(), Some(answer) if matches!(&answer.result, Err(Error::Closed)))
 }

@@ -209,7 +209,7 @@ fn over(id: WaiterId, given: OpResult, ended: Result<(), Error>) -> Reaped {
 
 /// Whether the first result that is to be sent on is `Closed`.
 fn is_refused(told: &Deferred<u32, u32>) -> bool {
-    matches!(told.results.first(), Some(answer) if matches!(&answer.result, Err(Error::Closed)))
+    matches!(told.results.front(), Some(answer) if matches!(&answer.result, Err(Error::Closed)))
 }
 
 /// The record of an open that there is.

@@ -162,7 +162,7 @@ impl Worker {
 
     /// What a request owned that is over, and was let go last.
     pub fn take_resources(&mut self) -> Option<Retired> {
-        self.deferred.resources.pop()
+        self.deferred.resources.pop_back()
     }
 
     /// Admits a request that a task of the worker waits for. None where it is refused.

@@ -178,7 +178,14 @@ module _ {B : Type 0} where
       let set' : List Bool = slice_set s.idle.published w.index true in
       let x1 : Idle = record s.idle { published = slice_set s.idle.published w.index true } in
       let n : ℕ = s.config.workers in
-      let balance : (others : Profile) → IsWhole (with_worker others w) s → claimed_of n others i true set' ≡ claimed_of n others i z.published set = grind (arith, beside, set_beside, here_shown, set_at, sum_one) in
+      let balance : (others : Profile) → IsWhole (with_worker others w) s → claimed_of n others i true set' ≡ claimed_of n others i z.published set = λ others whole.
+      let f = is_claimed others i z.published set in
+      let g = is_claimed others i true set' in
+      let within : i < length set = omega (arith, whole.set, few) in
+      let same : (j : ℕ) → j ≢ i → g j ≡ f j = λ j other. rw (beside others i j z.published true other, set_beside set i j true other) refl in
+      let at_f : f i ≡ 0 = rw (here_shown others i z.published, out) refl in
+      let at_g : g i ≡ 0 = rw (here_shown others i true, set_at set i true within) refl in
+      omega (arith, sum_one f g i 0 n (omega arith) (omega (arith, there)) same, at_f, at_g) in
       let done : Counts z (record z { published = true }) w s x1 = record {
         sized = length-set set i true;
         counts = λ others whole. omega (arith, balance others whole);

@@ -1,6 +1,6 @@
 -- The callbacks: the batch is taken, and items are told that concern nobody else.
 use Rattle.std.proofs.{Common.{map, ◌≡◌, ℕ, [], ◌&&◌, ◌+◌, ◌<◌, ◌-◌, Bool, length, drop, nat_lt, arith, true, false, Option, Some, None, refl, sym, ap, subst, ◌∙◌, if◌then◌else◌}, lemmas.{Bool.Decides.nat_tests, List.length-drop}}
-use Rattle.std.specs.Vec.{vec_capacity}
+use Rattle.std.specs.VecDeque.{deque_capacity}
 use Rattle.exec_waiters.specs.{Told.is_untold, declared.deferred.Deferred.Deferred}
 use Rattle.exec_task.specs.declared.body.Said.{Said}
 use Rattle.exec_machine.specs.{declared.{event.Event.{Event, TheVariants.Turn}, state.Next.Next}, After.common_after, Choice.Choice.Plain, Ranges.ring_size, World.{Common, Own as Books}}
@@ -97,7 +97,7 @@ module _ {B : Type 0} where
   -- THE FIRST OUTPUT IS LET GO
 
   pub without_output : (n : AfterCallbacks) (w : Worker) (s : Shared B) (left : Deferred Reply Reply) → SoundAt (Place.Callbacks InCallbacks.CallBack n) w s
-      → left ≡ record w.home.deferred { outputs = left.outputs } → vec_capacity left.outputs ≡ vec_capacity w.home.deferred.outputs → KeepsRoom w.home.deferred left
+      → left ≡ record w.home.deferred { outputs = left.outputs } → deque_capacity left.outputs ≡ deque_capacity w.home.deferred.outputs → KeepsRoom w.home.deferred left
       → SoundAt (Place.Callbacks InCallbacks.TakeBatch n) (record w { place = Place.Callbacks InCallbacks.TakeBatch n; home = record w.home { deferred = record w.home.deferred { outputs = left.outputs } } }) s
   without_output n w s left sound same room keeps =
       let left1 : Deferred Reply Reply = record w.home.deferred { outputs = left.outputs } in
@@ -143,7 +143,7 @@ module _ {B L : Type 0} (left : B → L) (spot : L → Option Said → Spot) whe
 
   -- a step of the callbacks that tells an item, and changes of what the machine sees no more than what is waiting
   output_let_go : (n : AfterCallbacks) (w : Worker) (s : Shared B) (left' : Deferred Reply Reply) → SoundAt (Place.Callbacks InCallbacks.CallBack n) w s
-      → left' ≡ record w.home.deferred { outputs = left'.outputs } → vec_capacity left'.outputs ≡ vec_capacity w.home.deferred.outputs → KeepsRoom w.home.deferred left'
+      → left' ≡ record w.home.deferred { outputs = left'.outputs } → deque_capacity left'.outputs ≡ deque_capacity w.home.deferred.outputs → KeepsRoom w.home.deferred left'
       → w.home.deferred.notes.wakes.items ≡ [] → 0 < length w.home.deferred.outputs.items → left'.outputs.items ≡ drop 1 w.home.deferred.outputs.items
       → Steps left spot w s Turn (record w { place = next_callback_of n (record w { place = Place.Callbacks InCallbacks.TakeBatch n; home = record w.home { deferred = record w.home.deferred { outputs = left'.outputs } } }); home = record w.home { deferred = record w.home.deferred { outputs = left'.outputs } } }) s
   output_let_go n w s left' sound same room keeps none some items =
@@ -195,7 +195,7 @@ module _ {B L : Type 0} (left : B → L) (spot : L → Option Said → Spot) whe
   pub output_gone : (n : AfterCallbacks) (w w' : Worker) (s : Shared B) (e : Event) → SoundAt (Place.Callbacks InCallbacks.CallBack n) w s → e ≡ Turn → w'.place ≡ next_callback_of n w'
       → w' ≡ record w { place = w'.place; home = record w.home { deferred = record w.home.deferred { outputs = w'.home.deferred.outputs } } }
       → w.home.deferred.notes.wakes.items ≡ [] → 0 < length w.home.deferred.outputs.items
-      → w'.home.deferred.outputs.items ≡ drop 1 w.home.deferred.outputs.items → KeepsRoom w.home.deferred w'.home.deferred → vec_capacity w'.home.deferred.outputs ≡ vec_capacity w.home.deferred.outputs
+      → w'.home.deferred.outputs.items ≡ drop 1 w.home.deferred.outputs.items → KeepsRoom w.home.deferred w'.home.deferred → deque_capacity w'.home.deferred.outputs ≡ deque_capacity w.home.deferred.outputs
       → Steps left spot w s e w' s
   output_gone n w w' s e sound event place same none some items keeps room =
       let v : Worker = record w { place = Place.Callbacks InCallbacks.TakeBatch n; home = record w.home { deferred = record w.home.deferred { outputs = w'.home.deferred.outputs } } } in

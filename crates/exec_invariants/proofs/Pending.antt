@@ -1,18 +1,31 @@
 -- What the end of a poll is to the machine, where the task waits.
-use Rattle.std.proofs.{Common.{◌≡◌, inl, ℕ, ◌<◌, ◌||◌, Bool, true, false, length, Option, Some, None, IsSome, refl, sym, ap, subst, ◌∙◌, slice_get, slice_set, is_some, option_to_list, IsTrue, if◌then◌else◌}, lemmas.{Bool.{false≢true, eq-eqb}, Option.slice_get_within}}
+use Rattle.std.proofs.{Common.{◌≡◌, ◌⊎◌, inl, ℕ, ◌<◌, ◌==◌, ◌&&◌, ◌||◌, not, Bool, true, false, length, Option, Some, None, IsSome, refl, sym, ap, subst, ◌∙◌, slice_get, slice_set, is_some, option_to_list, IsTrue, if◌then◌else◌}, lemmas.{Bool.{false≢true, eq-eqb}, Option.slice_get_within}}
 use Rattle.std.proofs.Common.{arith}
 use Rattle.std.proofs.lemmas.Bool.{or_right}
 use Rattle.exec_task.specs.{Phases.{is_polled, given_back, over, requeue_where, runnable_of, pend_answer}, declared.{body.Said.Said, runnable.{AfterPoll.AfterPoll, Runnable.Runnable}, task.Phase.Phase}}
-use Rattle.exec_machine.specs.{declared.{event.Event.{Event, TheVariants.Pend}, state.{Waiting.Waiting, Next.Next}}, Choice.Choice.Plain, Progress.Plan, Same.is_number, Tasks.{may_stop, pended_phase}, Tests.{is_settled}, World.task_of}
+use Rattle.exec_machine.specs.{declared.{event.Event.{Event, TheVariants.Pend}, state.{Request.Request, Sleeper.Sleeper, Waiting.Waiting, Next.Next}}, Choice.Choice.Plain, Progress.Plan, Same.is_number, Tasks.{may_stop, pended_phase}, Tests.{is_resolved, is_settled, is_unsent}, World.task_of}
 use Rattle.exec_moves.specs.{declared.{handing.{AfterCallbacks.AfterCallbacks, AfterPush.AfterPush, InPush.InPush}, place.{InPoll.InPoll, Place.Place, InCallbacks.InCallbacks}}, Move.move_at, Poll.{is_noted, pend as pend_moves}, Seen.{polls_at, polls_in, next_in_poll}, State.{Desk, Moved, Things}}
 use Rattle.exec_parts.{specs.{declared.parts.{shared.Shared.Shared, task_slot.TaskSlot.TaskSlot, worker.Worker.Worker}, Phased.is_complete, Polls.{OfSlot, flag_after, pended_with, pended_slot}, Pooled.queued_again, Spots.Spot, Tests.after_poll_of, View.{Views, own_of, desk_of, common_of, phase_seen, task_seen, body_in, things_with}, Things.TurnsSlot}, proofs.Facts.same_Some}
 use Rattle.exec_invariants.{specs.{Places.{begins_at, hands_on_at, removes_at}, Holding.holder_of, Sound.{IsInHand, MayStop, SoundAt, may_end}, Whole.{HasOne, is_number as is_counted, runnables_in}, Works.{Suits, Steps}}, proofs.{Here.{IsHere, polled_here}, Polling.{IsOutside, home_mine, number_apart}, PoolKept.unremoved, Slots.{Balances, IsEvent, slotted, task_there}, SlotTasks.{IsAfter, Sits, root_tasked}, Seen.{request_at, sleeper_at}}}
 
 -- WHAT IT WAITS FOR ISN'T OVER
 
+requested : (it : Request) (i : ℕ) → (is_unsent it.forwarding ≡ false) ⊎ ((it.worker ≡ i) × (is_resolved it.phase ≡ false)) → (not (is_unsent it.forwarding) || ((it.worker == i) && not (is_resolved it.phase))) ≡ true
+requested = grind (arith, or_right, eq-eqb)
+
+slept : (it : Sleeper) (i : ℕ) → (is_unsent it.forwarding ≡ false) ⊎ ((it.worker ≡ i) × (it.fired ≡ false) × (it.removed ≡ false)) → (not (is_unsent it.forwarding) || ((it.worker == i) && not it.fired && not it.removed)) ≡ true
+slept = grind (arith, or_right, eq-eqb)
+
 module _ {B L : Type 0} (left : B → L) (spot : L → Option Said → Spot) where
   pub stops : (p : Plan) (vs : Views) (w : Worker) (s : Shared B) (u : Waiting) → may_end u ≡ true → MayStop w.index u s.requests.items s.sleepers.items → may_stop (common_of left spot p vs s) w.index u ≡ true
-  stops = grind (arith, request_at, or_right, eq-eqb, sleeper_at, false≢true)
+  stops p vs w s Waiting.Nothing ends so = absurd (false≢true ends)
+  stops p vs w s (Waiting.Request k) ends so =
+      subst (λ (it : Request). (not (is_unsent it.forwarding) || ((it.worker == w.index) && not (is_resolved it.phase))) ≡ true) (sym (request_at s.requests.items k so.0 so.1)) (requested so.0.shown w.index so.2)
+  stops p vs w s (Waiting.Timer n) ends so =
+      subst (λ (it : Sleeper). (not (is_unsent it.forwarding) || ((it.worker == w.index) && not it.fired && not it.removed)) ≡ true) (sym (sleeper_at s.sleepers.items n so.0 so.1)) (slept so.0.shown w.index so.2)
+  stops p vs w s Waiting.Wake ends so = refl
+  stops p vs w s Waiting.Woken ends so = absurd (false≢true ends)
+  stops p vs w s Waiting.Yielded ends so = refl
 
 -- THE CELL
 

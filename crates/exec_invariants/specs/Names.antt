@@ -1,5 +1,5 @@
 -- How the requests of a worker in its driver, what was told of them, and their numbers go together; and what is left to be told.
-use Rattle.std.specs.{Prelude.{◌≡◌, ℕ, Bool, true, false, ◌+◌, ◌*◌, ◌≤◌, count_by, List, length, slice_get, Some, None, is_some, IsSome}, Option.option_map, Vec.vec_capacity}
+use Rattle.std.specs.{Prelude.{◌≡◌, ℕ, Bool, true, false, ◌+◌, ◌*◌, ◌≤◌, count_by, List, length, slice_get, Some, None, is_some, IsSome}, Option.option_map, VecDeque.deque_capacity}
 use Rattle.exec_base.specs.{Slab.{Slab, value_at, live_count}, declared.{slab.{Id.Id, Slot.{Slot, TheVariants.{Live, Vacant, Retired}}}, task_no.TaskNo.TaskNo}}
 use Rattle.exec_outcomes.specs.{Accounts.is_durable, Outcomes.HasCome, declared.outcome.Judged.Judged}
 use Rattle.exec_time.specs.declared.timers.Sleeper.{Sleeper as Sleeping}
@@ -29,11 +29,11 @@ tellers requests sleepers = pending_count requests + held_count requests + live_
 
 -- the lists have so many places, with what stands in them
 pub record HasWidth (left : Deferred Reply Reply) (n : ℕ) : Type 0 where
-  pub wakes : n ≤ vec_capacity left.notes.wakes
-  pub completions : n ≤ vec_capacity left.notes.completions
-  pub outputs : n ≤ vec_capacity left.outputs
-  pub resources : n ≤ vec_capacity left.resources
-  pub results : n ≤ vec_capacity left.results
+  pub wakes : n ≤ deque_capacity left.notes.wakes
+  pub completions : n ≤ deque_capacity left.notes.completions
+  pub outputs : n ≤ deque_capacity left.outputs
+  pub resources : n ≤ deque_capacity left.resources
+  pub results : n ≤ deque_capacity left.results
 
 -- RECORDS: that of a request which isn't over says the same as its driver, whose wheel has this start and tick
 pub record IsAlike (start tick : ℕ) (w : Waiter Reply Reply) (r : Request) : Type 0 where

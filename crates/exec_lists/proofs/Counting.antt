@@ -4,7 +4,7 @@ use Rattle.std.specs.Prelude.{count_by}
 use Rattle.std.proofs.lemmas.List.{set-get_or}
 use Rattle.std.proofs.lemmas.List.Sums.{sum_by-set, sum_by-le-sum_by}
 use Rattle.std.specs.Prelude.{is_some}
-use Rattle.exec_base.specs.{Slab.{Slab, value_at, written}, declared.slab.Id.Id}
+use Rattle.exec_base.specs.{Slab.{Slab, value_at, written, is_live, live_count}, declared.slab.Id.Id}
 use Rattle.exec_waiters.{specs.{States.{waiter_at, waiter_in, waiter_of, is_flying, pending_count, flying_count}, declared.waiter.{Waiter.Waiter, Entry.Entry}}, proofs.Changes.one_if}
 use Rattle.exec_lists.specs.Listed.{count_of}
 use Rattle.exec_base.specs.{Slab.{removed, freed}, declared.slab.Slot.{Slot, TheVariants.{Vacant, Retired}}}
@@ -61,3 +61,10 @@ module _ {S F : Type 0} where
   -- no more requests are in flight than aren't over
   pub flying_few : (s : Slab (Entry S F)) → flying_count s ≤ pending_count s
   flying_few s = sum_by-le-sum_by (λ o. one_if (counts_flying o)) (λ o. one_if (counts_pending o)) s.slots flies_less
+
+  asks_less : (o : Slot (Entry S F)) → one_if (counts_pending o) ≤ one_if (is_live o)
+  asks_less = grind arith
+
+  -- nor aren't over than are there
+  pub pending_few : (s : Slab (Entry S F)) → pending_count s ≤ live_count s
+  pending_few s = sum_by-le-sum_by (λ o. one_if (counts_pending o)) (λ o. one_if (is_live o)) s.slots asks_less

@@ -1,4 +1,4 @@
 pub mod Lists
-pub mod Due
+pub mod NameList
 pub mod Listed
 pub mod Examples

@@ -2,7 +2,7 @@
 
 ghost use Rattle.std.specs.Prelude.{◌≡◌, [], ◌∷◌, Some, None, true, false};
 ghost use Rattle.exec_waiters.specs.{Examples.{here, awaited, flying, alone}, States.{is_flying, is_idle}};
-ghost use Rattle.exec_lists.specs.{Lists.{no_lists, is_same, without, is_among, has_first, first_of, rest_of, withdrawn, with_queued, with_due, with_cancel, after_queued}, Listed.{is_once, are_all, count_of}, Due.in_slot, Examples.{first, second, later, both_queued, both_due}};
+ghost use Rattle.exec_lists.specs.{Lists.{no_lists, is_same, without, is_among, has_first, first_of, rest_of, withdrawn, with_queued, with_due, with_cancel, after_queued}, Listed.{is_once, are_all, count_of}, NameList.{in_slot, are_within}, Examples.{first, second, later, both_queued, both_due}};
 
 /// Who comes first leaves a place first, and no other place has it.
 pub fn order()
@@ -35,6 +35,8 @@ pub fn due_and_cancels()
     ensures not_twice { is_once (with_cancel first (with_cancel first both_due)).cancels ≡ false }
     ensures of_a_slot { in_slot 0 (first ∷ second ∷ later ∷ []) ≡ 2 }
     ensures of_another { in_slot 2 (first ∷ second ∷ later ∷ []) ≡ 0 }
+    ensures within { are_within 2 (first ∷ second ∷ later ∷ []) ≡ true }
+    ensures not_within { are_within 1 (first ∷ second ∷ later ∷ []) ≡ false }
 {}
 
 /// A list has requests of its place alone, each once: refused are a name that stands twice, one of a request elsewhere,

@@ -1,6 +1,6 @@
 //! The places of a driver: lists of requests, each in order of coming, and what holds of a list as one request changes.
 #![tactic(auto)]
 
-mod due;
 pub mod examples;
 pub mod lists;
+mod name_list;

@@ -8,7 +8,7 @@ ghost use Rattle.std.specs.Prelude.{◌≡◌, ◌<◌, ◌≤◌, true, false, 
 ghost use Rattle.std.specs.VecDeque.{deque_capacity};
 ghost use Rattle.exec_lists.specs.Lists.{no_lists, without, is_among, has_first, first_of, withdrawn, with_queued, with_gated, with_enrolment, with_due, with_cancel, without_gated, after_queued, after_enrolment, after_due, after_cancel};
 
-use crate::due::Due;
+use crate::name_list::NameList;
 use exec_waiters::waiter_id::WaiterId;
 use std::alloc::{AllocError, Global};
 use std::collections::VecDeque;
@@ -18,15 +18,15 @@ use std::marker::Model;
 #[derive(Drop)]
 pub struct Lists {
     // What is to be staged.
-    queued: VecDeque<WaiterId>,
+    queued: NameList,
     // What waits at a gate.
-    gated: VecDeque<WaiterId>,
+    gated: NameList,
     // Whose deadline is to be enrolled.
-    enrolments: VecDeque<WaiterId>,
+    enrolments: NameList,
     // Whose deadline has come, in the order of the wheel.
-    due: Due,
+    due: NameList,
     // Whose cancel is to be staged, in the order in which they were asked for.
-    cancels: VecDeque<WaiterId>,
+    cancels: NameList,
     // For how many requests there is memory in each.
     room: usize,
 }
@@ -39,15 +39,15 @@ impl Model for Lists {
     ghost Value = { Places };
 
     ghost view = { λ l. record {
-      queued = l.queued.items;
-      gated = l.gated.items;
-      enrolments = l.enrolments.items;
+      queued = l.queued.names.items;
+      gated = l.gated.names.items;
+      enrolments = l.enrolments.names.items;
       due = l.due.names.items;
-      cancels = l.cancels.items;
+      cancels = l.cancels.names.items;
       room = l.room;
     } };
 
-    ghost invariant = { λ l. (l.room ≤ deque_capacity l.queued) × (l.room ≤ deque_capacity l.gated) × (l.room ≤ deque_capacity l.enrolments) × (l.room ≤ deque_capacity l.due.names) × (l.room ≤ deque_capacity l.cancels) };
+    ghost invariant = { λ l. (l.room ≤ deque_capacity l.queued.names) × (l.room ≤ deque_capacity l.gated.names) × (l.room ≤ deque_capacity l.enrolments.names) × (l.room ≤ deque_capacity l.due.names) × (l.room ≤ deque_capacity l.cancels.names) };
 }
 
 impl Lists {
@@ -56,11 +56,11 @@ impl Lists {
         ensures { result ≡ no_lists }
     {
         Lists {
-            queued: VecDeque::new(alloc),
-            gated: VecDeque::new(alloc),
-            enrolments: VecDeque::new(alloc),
-            due: Due::new(alloc),
-            cancels: VecDeque::new(alloc),
+            queued: NameList::new(alloc),
+            gated: NameList::new(alloc),
+            enrolments: NameList::new(alloc),
+            due: NameList::new(alloc),
+            cancels: NameList::new(alloc),
             room: 0,
         }
     }
@@ -70,11 +70,11 @@ impl Lists {
         ensures ok { OnOk result (self.new ≡ record self.old { room = max self.old.room count }) }
         ensures kept { OnErr result (self.new ≡ self.old) }
     {
-        make_room(&mut self.queued, count)?;
-        make_room(&mut self.gated, count)?;
-        make_room(&mut self.enrolments, count)?;
+        self.queued.reserve(count)?;
+        self.gated.reserve(count)?;
+        self.enrolments.reserve(count)?;
         self.due.reserve(count)?;
-        make_room(&mut self.cancels, count)?;
+        self.cancels.reserve(count)?;
         self.room = self.room.max(count);
         Ok(())
     }
@@ -83,14 +83,14 @@ impl Lists {
     pub fn has_queued(&self) -> bool
         ensures { result ≡ has_first self.now.queued }
     {
-        !self.queued.is_empty()
+        self.queued.has_first()
     }
 
     /// Whether a deadline is to be enrolled.
     pub fn has_enrolments(&self) -> bool
         ensures { result ≡ has_first self.now.enrolments }
     {
-        !self.enrolments.is_empty()
+        self.enrolments.has_first()
     }
 
     /// Whether a deadline has come.
@@ -104,32 +104,32 @@ impl Lists {
     pub fn has_cancels(&self) -> bool
         ensures { result ≡ has_first self.now.cancels }
     {
-        !self.cancels.is_empty()
+        self.cancels.has_first()
     }
 
     /// What waits at a gate.
     pub fn gated(&self) -> &VecDeque<WaiterId>
         ensures { result.now.items ≡ self.now.gated }
     {
-        &self.gated
+        self.gated.names()
     }
 
     /// Whether a request waits at a gate.
     pub fn is_gated(&self, id: WaiterId) -> bool
         ensures { result ≡ is_among id self.now.gated }
     {
-        has(&self.gated, id)
+        self.gated.has(id)
     }
 
     /// Takes a request out of every place.
     pub fn withdraw(&mut self, id: WaiterId)
         ensures { self.new ≡ withdrawn id self.old }
     {
-        take_out(&mut self.queued, id);
-        take_out(&mut self.gated, id);
-        take_out(&mut self.enrolments, id);
+        self.queued.take_out(id);
+        self.gated.take_out(id);
+        self.enrolments.take_out(id);
         self.due.take_out(id);
-        take_out(&mut self.cancels, id);
+        self.cancels.take_out(id);
     }
 
     /// A request is to be staged. The caller must have made room.
@@ -137,7 +137,7 @@ impl Lists {
         requires room { length self.old.queued < self.old.room }
         ensures { self.new ≡ with_queued id self.old }
     {
-        self.queued.push_back_reserved(id);
+        self.queued.push(id);
     }
 
     /// A request waits at its gate. The caller must have made room.
@@ -145,14 +145,14 @@ impl Lists {
         requires room { length self.old.gated < self.old.room }
         ensures { self.new ≡ with_gated id self.old }
     {
-        self.gated.push_back_reserved(id);
+        self.gated.push(id);
     }
 
     /// A request has its permit, and doesn't wait at its gate any more.
     pub fn ungate(&mut self, id: WaiterId)
         ensures { self.new ≡ without_gated id self.old }
     {
-        take_out(&mut self.gated, id);
+        self.gated.take_out(id);
     }
 
     /// Puts one that was admitted into its places: its deadline is to be enrolled where it has one, and it is gated or
@@ -178,7 +178,7 @@ impl Lists {
         requires room { length self.old.enrolments < self.old.room }
         ensures { self.new ≡ with_enrolment id self.old }
     {
-        self.enrolments.push_back_reserved(id);
+        self.enrolments.push(id);
     }
 
     /// A deadline has come, unless that was known. The caller must have made room.
@@ -199,10 +199,10 @@ impl Lists {
         ensures { self.new ≡ with_cancel id self.old }
     {
         if told {
-            self.cancels.push_back_reserved(id);
+            self.cancels.push(id);
         } else {
             self.due.take_out(id);
-            self.cancels.push_back_reserved(id);
+            self.cancels.push(id);
         }
     }
 
@@ -211,7 +211,7 @@ impl Lists {
         ensures first { result ≡ first_of self.old.queued }
         ensures rest { self.new ≡ after_queued self.old }
     {
-        self.queued.pop_front()
+        self.queued.pop()
     }
 
     /// Takes out whose deadline is to be enrolled first.
@@ -219,7 +219,7 @@ impl Lists {
         ensures first { result ≡ first_of self.old.enrolments }
         ensures rest { self.new ≡ after_enrolment self.old }
     {
-        self.enrolments.pop_front()
+        self.enrolments.pop()
     }
 
     /// Takes out whose deadline came first.
@@ -235,30 +235,6 @@ impl Lists {
         ensures first { result ≡ first_of self.old.cancels }
         ensures rest { self.new ≡ after_cancel self.old }
     {
-        self.cancels.pop_front()
+        self.cancels.pop()
     }
-}
-
-/// Makes room in a list for so many in all.
-fn make_room(list: &mut VecDeque<WaiterId>, count: usize) -> Result<(), AllocError>
-    ensures items { list.new.items ≡ list.old.items }
-    ensures more { deque_capacity list.old ≤ deque_capacity list.new }
-    ensures room { OnOk result (count ≤ deque_capacity list.new) }
-{
-    list.reserve(count.saturating_sub(list.len()))
-}
-
-/// Takes a name out of a list, where it stands there.
-pub(crate) fn take_out(list: &mut VecDeque<WaiterId>, id: WaiterId)
-    ensures items { list.new.items ≡ without id list.old.items }
-    ensures capacity { deque_capacity list.new ≡ deque_capacity list.old }
-{
-    list.retain(|other| !(other.0.index == id.0.index && other.0.generation == id.0.generation));
-}
-
-/// Whether a list has a name.
-pub(crate) fn has(list: &VecDeque<WaiterId>, id: WaiterId) -> bool
-    ensures { result ≡ is_among id list.now.items }
-{
-    list.iter().any(|other| other.0.index == id.0.index && other.0.generation == id.0.generation)
 }

@@ -1,5 +1,5 @@
 -- The callbacks: the next of the wakes that are left, and the wake of a task to which an end was sent, are steps.
-use Rattle.std.{proofs.{Common.{[], ◌≡◌, ℕ, ◌+◌, ◌<◌, ◌≤◌, ◌==◌, ◌&&◌, ◌||◌, Bool, true, false, not, cond, List, ◌∷◌, count_by, map, Option, Some, refl, sym, ap, ◌∙◌, arith, slice_get, slice_set, if◌then◌else◌}, lemmas.{Bool.{false≢true, eq-eqb}, List.map-set}}, specs.Vec.vec_capacity}
+use Rattle.std.{proofs.{Common.{[], ◌≡◌, ℕ, ◌+◌, ◌<◌, ◌≤◌, ◌==◌, ◌&&◌, ◌||◌, Bool, true, false, not, cond, List, ◌∷◌, count_by, map, Option, Some, refl, sym, ap, ◌∙◌, arith, slice_get, slice_set, if◌then◌else◌}, lemmas.{Bool.{false≢true, eq-eqb}, List.map-set}}, specs.VecDeque.deque_capacity}
 use Rattle.exec_base.specs.declared.task_no.TaskNo.{TaskNo}
 use Rattle.exec_waiters.specs.declared.deferred.Deferred.{Deferred}
 use Rattle.exec_task.specs.declared.body.Said.{Said}
@@ -55,7 +55,7 @@ pub rooted_wakes : (i : ℕ) (n : Names) (w : Worker) (left left' : Deferred Rep
     → IsRooted i n (driver_of w) w.home.timers left rs ss → IsRooted i n (driver_of w) w.home.timers left' rs ss
 rooted_wakes = grind arith
 
-pub wide_wakes : (left left' : Deferred Reply Reply) (m : ℕ) → left' ≡ record left { notes = record left.notes { wakes = left'.notes.wakes } } → vec_capacity left'.notes.wakes ≡ vec_capacity left.notes.wakes → HasWidth left m → HasWidth left' m
+pub wide_wakes : (left left' : Deferred Reply Reply) (m : ℕ) → left' ≡ record left { notes = record left.notes { wakes = left'.notes.wakes } } → deque_capacity left'.notes.wakes ≡ deque_capacity left.notes.wakes → HasWidth left m → HasWidth left' m
 wide_wakes = grind arith
 
 -- what is a thing of all then

@@ -3,7 +3,7 @@ use Rattle.std.proofs.{Common.{◌≡◌, ℕ, ◌+◌, ◌-◌, ◌<◌, ◌≤
 use Rattle.exec_words.specs.declared.inbox.Message.{Message}
 use Rattle.exec_base.specs.declared.task_no.TaskNo.{TaskNo}
 use Rattle.exec_task.specs.declared.body.Said.{Said}
-use Rattle.exec_machine.specs.{declared.{event.Event.{Event, TheVariants.Apply}, state.{Forwarding.{Forwarding, TheVariants.Applied}, MailMessage.{MailMessage, TheVariants.ForwardTimer}}}, Tests.{is_applied, is_unsent}, World.sleeper_of}
+use Rattle.exec_machine.specs.{declared.{event.Event.{Event, TheVariants.Apply}, state.{Forwarding.{Forwarding, TheVariants.Applied}, MailMessage.{MailMessage, TheVariants.ForwardTimer}, Sleeper.Sleeper}}, Tests.{is_applied, is_unsent}, World.sleeper_of}
 use Rattle.exec_moves.specs.{declared.place.{InMail.InMail, Place.Place}, Mail.after_message, State.Desk, Told.{told_of_timer_forward}}
 use Rattle.exec_parts.{specs.{declared.parts.{mail.Subject.Subject, shared.Shared.Shared, sleeping.SleeperRecord.SleeperRecord, worker.Worker.Worker}, Calls.sleeper_applied, MailTakes.TakesForwardTimer, Spots.Spot, View.{common_of, desk_of, driver_of, message_of}}, proofs.Facts.same_Some}
 use Rattle.exec_invariants.{specs.{Due.IsDue, Flown.HasFlown, Holding.{Box, Hands, Holder, IsForwarded, IsHolding, Mail, Nap, Thing, box_of, holder_of, is_sent, mail_in, nap_of, thing_of, under_way}, Sound.{IsMineIn, SoundAt, served_in}, Whole.{HasWhole, hands_of, with_worker}, Works.Steps}, proofs.{HoldMail.{is_never, is_once}, HoldSleeps.nap_redone, Lined.mapped, MailApplies.{AppliedKeeps, one_less, passed_on, rest_of, split_first}, MailApplied.{applied_steps, kept_there, touched}, Seen.sleeper_at, ServingHolds.KeepsSpare, Serving.{SparesRecords, spares_sleeper}}}
@@ -127,4 +127,13 @@ module _ {B L : Type 0} (left : B → L) (spot : L → Option Said → Spot) whe
       let cs = common_of left spot p vs s in
       let sleeper : sleeper_of cs z ≡ it.shown = sleeper_at s.sleepers.items z it there in
       let batch : List MailMessage = map message_of w.batch.values in
-      grind (arith, forward_batch, map-set))
+      record {
+        desk = ap (λ (y : Worker). record (desk_of y) { batch = batch }) (sym is_vw) ∙ ap (λ (d : Desk). record d { batch = batch }) desk ∙ sym (forward_batch z (desk_of u) batch);
+        own = refl;
+        shows = refl;
+        common =
+            ap (common_of left spot p vs) (sym kept ∙ r.kept)
+            ∙ ap (λ xs. record cs { sleepers = map (λ y. y.shown) xs }) sleepers
+            ∙ ap (λ xs. record cs { sleepers = xs }) (map-set (λ y. y.shown) s.sleepers.items z now)
+            ∙ ap (λ (q : Sleeper). record cs { sleepers = slice_set cs.sleepers z (record q { forwarding = Applied }) }) (sym sleeper);
+      })

@@ -4,7 +4,7 @@ use Rattle.exec_words.specs.declared.inbox.Message.{Message}
 use Rattle.exec_base.specs.{Slab.value_at, declared.task_no.TaskNo.TaskNo}
 use Rattle.exec_time.specs.declared.timers.Sleeper.{Sleeper as Sleeping}
 use Rattle.exec_task.specs.declared.body.Said.{Said}
-use Rattle.exec_machine.specs.{declared.{event.Event.{Event, TheVariants.Apply}, state.{MailMessage.{MailMessage, TheVariants.CancelTimer}, Sleeper.Sleeper}}, Tests.{is_unsent}, World.sleeper_of}
+use Rattle.exec_machine.specs.{declared.{event.Event.{Event, TheVariants.Apply}, state.{MailMessage.{MailMessage, TheVariants.CancelTimer}, Sleeper.Sleeper}}, Tasks.removed, Tests.{is_unsent}, World.sleeper_of}
 use Rattle.exec_moves.specs.{declared.place.{InMail.InMail, Place.Place}, Mail.after_message, State.Desk, Told.{told_of_cancel}}
 use Rattle.exec_parts.{specs.{declared.parts.{mail.{Reply.Reply, Subject.Subject}, shared.Shared.Shared, sleeping.SleeperRecord.SleeperRecord, worker.Worker.Worker}, Calls.sleeper_removed, MailTakes.RemovesSleeper, Spots.Spot, View.{common_of, desk_of, message_of}}, proofs.Facts.same_Some}
 use Rattle.exec_invariants.{specs.{Holding.{Box, Hands, Holder, IsForwarded, IsHolding, Mail, Nap, Thing, box_of, holder_of, is_awaited_by, mail_in, nap_of, thing_of, under_way, waiters}, Sound.{IsMineIn, SoundAt}, Whole.{hands_of, with_worker}, Works.Steps}, proofs.{FiringRemoved.{removed_desk, removed_kept}, HoldMail.is_never, HoldSleeps.nap_redone, Lined.mapped, MailApplies.{AppliedKeeps, one_less, passed_on, rest_of, split_first}, MailApplied.{applied_steps, kept_again, kept_there, touched}, Seen.sleeper_at, ServingHolds.KeepsSpare, Serving.{SparesRecords, spares_sleeper}}}
@@ -114,7 +114,16 @@ module _ {B L : Type 0} (left : B → L) (spot : L → Option Said → Spot) whe
       let cs = common_of left spot p vs s in
       let sleeper : sleeper_of cs z ≡ it.shown = sleeper_at s.sleepers.items z it there in
       let batch : List MailMessage = map message_of w.batch.values in
-      grind (arith, cancel_batch, map-set))
+      record {
+        desk = ap (λ (y : Worker). record (desk_of y) { batch = batch }) (sym is_vw) ∙ ap (λ (d : Desk). record d { batch = batch }) desk ∙ sym (cancel_batch z it.shown (desk_of u) batch) ∙ ap (λ (q : Sleeper). told_of_cancel z q (desk_of w)) (sym sleeper);
+        own = refl;
+        shows = refl;
+        common =
+            ap (common_of left spot p vs) (sym kept ∙ r.kept)
+            ∙ ap (λ xs. record cs { sleepers = map (λ y. y.shown) xs }) r.sleepers
+            ∙ ap (λ xs. record cs { sleepers = xs }) (map-set (λ y. y.shown) s.sleepers.items z (sleeper_removed it))
+            ∙ ap (λ (q : Sleeper). record cs { sleepers = slice_set cs.sleepers z (removed q) }) (sym sleeper);
+      })
     where
       removed_wakes : (u v : Worker) (s s' : Shared B) → (r : RemovesSleeper z u v s s') → v.home.deferred.notes.wakes.items ≡ u.home.deferred.notes.wakes.items
       removed_wakes u v s s' r = by (value_at u.home.timers r.it.id.0) refl

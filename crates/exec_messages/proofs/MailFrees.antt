@@ -1,5 +1,5 @@
 -- The callbacks: what a request owned that is over is let go of.
-use Rattle.std.{proofs.{Common.{map, ◌≡◌, ℕ, suc, [], ◌∷◌, ◌==◌, ◌+◌, ◌<◌, ◌≤◌, ◌-◌, Bool, length, drop, nat_lt, arith, true, false, not, List, Contains, Option, Some, None, refl, sym, ap, subst, ◌∙◌, slice_get, slice_set, if◌then◌else◌}, lemmas.Bool.{false≢true, eq-eqb}}, specs.{Vec.vec_capacity, VecDeque.deque_capacity}}
+use Rattle.std.{proofs.{Common.{map, ◌≡◌, ℕ, suc, [], ◌∷◌, ◌==◌, ◌+◌, ◌<◌, ◌≤◌, ◌-◌, Bool, length, drop, nat_lt, arith, true, false, not, List, Contains, Option, Some, None, refl, sym, ap, subst, ◌∙◌, slice_get, slice_set, if◌then◌else◌}, lemmas.Bool.{false≢true, eq-eqb}}, specs.VecDeque.deque_capacity}
 use Rattle.exec_base.specs.Slab.{Slab}
 use Rattle.exec_time.specs.declared.timers.Sleeper.{Sleeper as Sleeping}
 use Rattle.exec_waiters.specs.{States.pending_count, declared.deferred.Deferred.Deferred}
@@ -95,7 +95,7 @@ module _ {B : Type 0} where
     pub ended : w'.names.ended.items ≡ rest
     pub capacity : deque_capacity w'.names.ended ≡ deque_capacity w.names.ended
     pub unreleased : w'.names.unreleased + 1 ≡ w.names.unreleased
-    pub wide : vec_capacity w'.home.deferred.resources ≡ vec_capacity w.home.deferred.resources
+    pub wide : deque_capacity w'.home.deferred.resources ≡ deque_capacity w.home.deferred.resources
     pub told : (live : ℕ) → IsTold w.names.ended.items w.home.deferred live → IsTold w'.names.ended.items w'.home.deferred live
     pub worker : w' ≡ record w { place = w'.place; names = record w.names { ended = w'.names.ended; unreleased = w'.names.unreleased }; home = record w.home { deferred = record w.home.deferred { resources = w'.home.deferred.resources } } }
     pub requests : s'.requests.items ≡ changed_at s.requests.items n releasing

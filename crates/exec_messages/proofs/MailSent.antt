@@ -1,6 +1,6 @@
 -- A REQUEST'S END GOES ELSEWHERE from now on: what its worker keeps for others then; and all of its own that holds again where it
 -- has nothing of the request any more.
-use Rattle.std.proofs.{Common.{◌≡◌, ◌≢◌, ◌⊎◌, ⊎_elim, ℕ, ◌+◌, ◌==◌, Bool, true, false, Contains, List, count_by, Some, None, IsSome, Result, Ok, Err, refl, sym, ap, subst, ◌∙◌, slice_get}, lemmas.Bool.{false≢true, eq-eqb}}
+use Rattle.std.proofs.{Common.{◌≡◌, ◌≢◌, ◌⊎◌, ⊎_elim, ℕ, ◌+◌, ◌≤◌, ◌==◌, Bool, true, false, Contains, List, count_by, Some, None, IsSome, Result, Ok, Err, refl, sym, ap, subst, ◌∙◌, slice_get}, lemmas.Bool.{false≢true, eq-eqb}}
 use Rattle.std.proofs.Common.{arith}
 use Rattle.exec_base.specs.{Slab.{Slab, value_at}, declared.{error.Error.Error, slab.Id.Id}}
 use Rattle.exec_time.specs.declared.{notes.ForwardedResult.ForwardedResult, timers.Sleeper.{Sleeper as Sleeping}}
@@ -107,7 +107,20 @@ module _ (i : ℕ) (n : Names) (d d' : Driving Reply Reply) (zs : Slab (Sleeping
       answers (Err error) h = h
 
       result_on : (a : Answer Reply) → IsResult i a rs → IsResult i a rs'
-      result_on = grind (arith, by_number, else_sent, same_Some, here_sent)
+      result_on a it =
+          by_number it.k k
+          (λ other. record { k = it.k; r = it.r; there = else_sent rs k r there it.k it.r (λ e. other (sym e)) it.there; worker = it.worker; reply = it.reply; answer = it.answer; paid = it.paid })
+          (λ same.
+          let is : it.r ≡ r = same_Some it.r r (sym it.there ∙ ap (slice_get rs) same ∙ there) in
+          record {
+            k = k;
+            r = forward_applied r;
+            there = here_sent rs k r there;
+            worker = ap (λ (y : Record). y.shown.worker) (sym is) ∙ it.worker;
+            reply = record { of = it.reply.of ∙ ap (λ m. Heard.Request m) same; task = ap (λ (y : Record). y.shown.waiter) (sym is) ∙ it.reply.task };
+            answer = answers a.result (subst (λ (y : Record). IsAnswerOf a.result (thing_of y)) is it.answer);
+            paid = subst (λ (y : Record). y.shown.wakes_paid ≤ 1) is it.paid;
+          })
 
 -- NOTHING OF IT IS AT THE DRIVER: all else is as it was
 

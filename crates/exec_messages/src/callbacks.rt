@@ -8,8 +8,8 @@
 //! A wake is paid by what its task waits for: a task waits for one thing at a time, so that is the thing that has ended.
 
 ghost use Rattle.exec_invariants.specs.{Sound.SoundAt, Whole.HasWhole, Works.Steps};
-ghost use Rattle.std.specs.Prelude.{◌+◌, ◌<◌, ◌≡◌, ℕ, ◌≤◌, length, drop, slice_get, Some, if◌then◌else◌};
-ghost use Rattle.std.specs.{Vec.vec_capacity, VecDeque.deque_capacity};
+ghost use Rattle.std.specs.Prelude.{◌+◌, ◌<◌, ◌≡◌, ℕ, ◌≤◌, length, drop, slice_get, slice_index_or, Some, if◌then◌else◌};
+ghost use Rattle.std.specs.VecDeque.{deque_capacity, deque_len};
 ghost use Rattle.exec_parts.specs.{Calls.{IsUnpaid, KeepsRoom, releasing, IsTold}, MailTakes.{IsSentEnd, IsSentOutput, MaySendEnd, MaySendOutput, MayWakeNext, WakesHearer, WakesNext, WakesWaiter, after_sending_of, queued_after, thing_heard}, Serving.changed_at, Tests.{after_callbacks_of, is_anything_told, leave_of, next_callback_of}};
 
 use exec_machine::event::Event;
@@ -24,6 +24,7 @@ use exec_parts::waking::pay;
 use exec_task::runnable::Runnable;
 use exec_time::notes::ForwardedResult;
 use exec_waiters::deferred::Answer;
+use std::collections::VecDeque;
 
 /// Takes the next step of the callbacks. The caller must know that the worker is at this place and sound with what all
 /// share, and that the balances of all parties hold.
@@ -96,7 +97,7 @@ fn wake_next<B: Scripted + Drop>(
     requires may { MayWakeNext worker.old shared.old }
     ensures wakes { WakesNext next worker.old worker.new shared.old shared.new result }
 {
-    let number = worker.home.deferred.notes.wakes.remove(0);
+    let number = take_first(&mut worker.home.deferred.notes.wakes);
     let task = number.0 as usize;
     let waited = shared.tasks[task].waiting();
     pay(waited, &mut shared.requests, &mut shared.sleepers);
@@ -160,7 +161,9 @@ fn send_end<B: Scripted + Drop>(
     requires may { MaySendEnd worker.old shared.old }
     ensures sends { IsSentEnd next worker.old worker.new shared.old shared.new result }
 {
-    let ForwardedResult { sender, result: _ } = worker.home.deferred.notes.completions.remove(0);
+    let ForwardedResult { sender, result: _ } = take_first(
+        &mut worker.home.deferred.notes.completions,
+    );
     let Reply { task, of } = sender;
     let Heard::Timer(timer) = of else {
         unreachable!()
@@ -186,7 +189,7 @@ fn send_output<B: Scripted + Drop>(
         id: _,
         sender,
         result,
-    } = worker.home.deferred.results.remove(0);
+    } = take_first(&mut worker.home.deferred.results);
     let Reply { task, of } = sender;
     let Heard::Request(request) = of else {
         unreachable!()
@@ -222,10 +225,10 @@ fn let_go_output(worker: &mut Worker, next: AfterCallbacks) -> Event
     ensures place { worker.new.place ≡ next_callback_of next worker.new }
     ensures outputs { worker.new.home.deferred.outputs.items ≡ drop 1 worker.old.home.deferred.outputs.items }
     ensures told { KeepsRoom worker.old.home.deferred worker.new.home.deferred }
-    ensures wide { vec_capacity worker.new.home.deferred.outputs ≡ vec_capacity worker.old.home.deferred.outputs }
+    ensures wide { deque_capacity worker.new.home.deferred.outputs ≡ deque_capacity worker.old.home.deferred.outputs }
     ensures same { worker.new ≡ record worker.old { place = worker.new.place; home = record worker.old.home { deferred = record worker.old.home.deferred { outputs = worker.new.home.deferred.outputs } } } }
 {
-    worker.home.deferred.outputs.remove(0);
+    worker.home.deferred.outputs.pop_front();
     worker.place = worker.next_callback(next);
     Event::Turn
 }
@@ -242,13 +245,13 @@ fn release_next<B: Drop>(worker: &mut Worker, next: AfterCallbacks, shared: &mut
     ensures ended { worker.new.names.ended.items ≡ drop 1 worker.old.names.ended.items }
     ensures capacity { deque_capacity worker.new.names.ended ≡ deque_capacity worker.old.names.ended }
     ensures unreleased { worker.new.names.unreleased + 1 ≡ worker.old.names.unreleased }
-    ensures wide { vec_capacity worker.new.home.deferred.resources ≡ vec_capacity worker.old.home.deferred.resources }
+    ensures wide { deque_capacity worker.new.home.deferred.resources ≡ deque_capacity worker.old.home.deferred.resources }
     ensures told { (live : ℕ) → IsTold worker.old.names.ended.items worker.old.home.deferred live → IsTold worker.new.names.ended.items worker.new.home.deferred live }
     ensures worker { worker.new ≡ record worker.old { place = worker.new.place; names = record worker.old.names { ended = worker.new.names.ended; unreleased = worker.new.names.unreleased }; home = record worker.old.home { deferred = record worker.old.home.deferred { resources = worker.new.home.deferred.resources } } } }
     ensures requests { (n : ℕ) → slice_get worker.old.names.ended.items 0 ≡ Some n → shared.new.requests.items ≡ changed_at shared.old.requests.items n releasing }
     ensures kept { shared.new ≡ record shared.old { requests = shared.new.requests } }
 {
-    worker.home.deferred.resources.remove(0);
+    worker.home.deferred.resources.pop_front();
     let Some(request) = worker.names.release() else {
         unreachable!()
     };
@@ -264,5 +267,19 @@ fn waited_for(of: Heard) -> Waiting
     match of {
         Heard::Request(request) => Waiting::Request(request),
         Heard::Timer(timer) => Waiting::Timer(timer),
+    }
+}
+
+/// Takes out the first item of a list. The caller must know that there is one.
+fn take_first<T>(list: &mut VecDeque<T>) -> T
+    requires some { 0 < deque_len list.old }
+    ensures value { result ≡ slice_index_or list.old.items 0 result }
+    ensures rest { list.new.items ≡ drop 1 list.old.items }
+    ensures len { deque_len list.new + 1 ≡ deque_len list.old }
+    ensures capacity { deque_capacity list.new ≡ deque_capacity list.old }
+{
+    match list.pop_front() {
+        Some(item) => item,
+        None => unreachable!(),
     }
 }

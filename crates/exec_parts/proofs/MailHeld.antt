@@ -54,112 +54,89 @@ module _ {B : Type 0} where
 drop_one : (xs : List Held) (at : ℕ) (h : Held) → at < length xs → drop at xs ≡ get_or xs at h ∷ drop (at + 1) xs
 drop_one xs at h more = let on : suc at ≡ at + 1 = omega arith in drop-cons xs at h more ∙ ap (λ n. get_or xs at h ∷ drop n xs) on
 
-same_so : (a b : ℕ) → a ≡ b → (a == b) ≡ true
-same_so a b h = grind (arith, nat_tests)
-
 module _ {B : Type 0} where
-  -- so far: the first were let go or left to others, which stand before the place
+  -- so far: the first were let go or left to others, and all stand where they stood
   pub record HeldSoFar (hs : List Held) (w0 : Worker) (s0 : Shared B) (at : ℕ) (w : Worker) (s : Shared B) : Type 0 where
-    pub within : at ≤ length w.letters.requests.items
-    pub done : List Held
+    pub within : at ≤ length hs
+    pub items : w.letters.requests.items ≡ hs
     pub v : Worker
-    pub split : hs ≡ done ++ drop at w.letters.requests.items
-    pub lets : LetsGoAll done w0 v s0 s
-    pub passed : take at w.letters.requests.items ≡ others_of w0.index done
-    pub may : MayLetGoAll (drop at w.letters.requests.items) v s
+    pub lets : LetsGoAll (take at hs) w0 v s0 s
+    pub may : MayLetGoAll (drop at hs) v s
     pub index : v.index ≡ w0.index
     pub timer : w.letters.timer ≡ w0.letters.timer
     pub worker : w ≡ record v { letters = w.letters }
 
   pub begun : (w : Worker) (s : Shared B) → MayLetGoAll w.letters.requests.items w s → HeldSoFar w.letters.requests.items w s 0 w s
-  begun w s may =
-      record {
-        within = omega arith;
-        done = [];
-        v = w;
-        split = refl;
-        lets = (refl, refl);
-        passed = refl;
-        may = may;
-        index = refl;
-        timer = refl;
-        worker = refl;
-      }
+  begun w s may = record { within = omega arith; items = refl; v = w; lets = (refl, refl); may = may; index = refl; timer = refl; worker = refl }
 
   module _ (hs : List Held) (w0 : Worker) (s0 : Shared B) (at : ℕ) (w : Worker) (s : Shared B) (so : HeldSoFar hs w0 s0 at w s) (h : Held) (more : at < length w.letters.requests.items) (is : h ≡ get_or w.letters.requests.items at h) where
-    abbrev cur : List Held
-    cur = w.letters.requests.items
+    inside : at < length hs
+    inside = subst (λ xs. at < length xs) so.items more
 
-    next : drop at w.letters.requests.items ≡ h ∷ drop (at + 1) w.letters.requests.items
-    next = drop_one w.letters.requests.items at h more ∙ ap (λ x. x ∷ drop (at + 1) w.letters.requests.items) (sym is)
+    one_is : h ≡ get_or hs at h
+    one_is = is ∙ ap (λ xs. get_or xs at h) so.items
+
+    both : (h.worker ≡ so.v.index → MayLetGo h.number so.v s) × ((w' : Worker) (s' : Shared B) → LetsGoOne h so.v w' s s' → MayLetGoAll (drop (at + 1) hs) w' s')
+    both = subst (λ xs. MayLetGoAll xs so.v s) (drop_one hs at h inside ∙ ap (λ x. x ∷ drop (at + 1) hs) (sym one_is)) so.may
+
+    -- one more was passed, whoever had it
+    passed : (v2 : Worker) (s2 : Shared B) → LetsGoOne h so.v v2 s s2 → LetsGoAll (take (at + 1) hs) w0 v2 s0 s2
+    passed v2 s2 one =
+        subst (λ xs. LetsGoAll xs w0 v2 s0 s2) (sym (take_more hs at h inside ∙ ap (λ x. take at hs ++ x ∷ []) (sym one_is)))
+        (joined (take at hs) h w0 so.v v2 s0 s s2 so.lets one)
 
     -- the worker had it
-    pub may_this : h.worker ≡ w.index → (l : Letters) → MayLetGo h.number (record w { letters = l }) s
-    may_this mine l =
-        let both = subst (λ xs. MayLetGoAll xs so.v s) next so.may in
+    pub may_this : h.worker ≡ w.index → MayLetGo h.number w s
+    may_this mine =
         let same = ap (λ (x : Worker). x.index) so.worker in
-        subst (λ (x : Worker). MayLetGo h.number (record x { letters = l }) s) (sym so.worker) (may_go_so l h.number so.v s (both.0 (mine ∙ same)))
+        subst (λ (x : Worker). MayLetGo h.number x s) (sym so.worker) (may_go_so w.letters h.number so.v s (both.0 (mine ∙ same)))
 
-    pub let_this : h.worker ≡ w.index → (w1 w2 : Worker) (s2 : Shared B) (rest : List Held) → rest ≡ take at w.letters.requests.items ++ drop (at + 1) w.letters.requests.items
-        → w1 ≡ record w { letters = w1.letters } → w1.letters.requests.items ≡ rest → w1.letters.timer ≡ w.letters.timer → LetsGo h.number w1 w2 s s2 → HeldSoFar hs w0 s0 at w2 s2
-    let_this mine w1 w2 s2 rest rest_is w1_is items timer lets =
+    pub let_this : h.worker ≡ w.index → (w2 : Worker) (s2 : Shared B) → LetsGo h.number w w2 s s2 → HeldSoFar hs w0 s0 (at + 1) w2 s2
+    let_this mine w2 s2 lets =
         let v = so.v in
+        let v2 : Worker = record w2 { letters = v.letters } in
         let same = ap (λ (x : Worker). x.index) so.worker in
-        let both = subst (λ xs. MayLetGoAll xs v s) next so.may in
-        let go : LetsGo h.number v (record w2 { letters = v.letters }) s s2 =
-        subst (λ (x : Worker). LetsGo h.number x (record w2 { letters = v.letters }) s s2) (ap (with_letters v.letters) (w1_is ∙ ap (with_letters w1.letters) so.worker)) (go_so v.letters h.number w1 w2 s s2 lets) in
-        let one : LetsGoOne h v (record w2 { letters = v.letters }) s s2 = here (mine ∙ same) go in
-        let kept : w2.letters ≡ w1.letters = ap (λ (x : Worker). x.letters) lets.worker in
-        let now : w2.letters.requests.items ≡ take at cur ++ drop (at + 1) cur = ap (λ (x : Letters). x.requests.items) kept ∙ items ∙ rest_is in
-        let long : length (take at cur) ≡ at = length-take-le at cur (le_of_lt more) in
-        let later : drop at w2.letters.requests.items ≡ drop (at + 1) cur = ap (drop at) now ∙ ap (λ n. drop n (take at cur ++ drop (at + 1) cur)) (sym long) ∙ drop-append_seam (take at cur) (drop (at + 1) cur) in
-        let before : take at w2.letters.requests.items ≡ take at cur = ap (take at) now ∙ ap (λ n. take n (take at cur ++ drop (at + 1) cur)) (sym long) ∙ take-append_seam (take at cur) (drop (at + 1) cur) in
+        let go : LetsGo h.number v v2 s s2 = subst (λ (x : Worker). LetsGo h.number x v2 s s2) (ap (with_letters v.letters) so.worker) (go_so v.letters h.number w w2 s s2 lets) in
+        let one : LetsGoOne h v v2 s s2 = here (mine ∙ same) go in
+        let kept : w2.letters ≡ w.letters = ap (λ (x : Worker). x.letters) lets.worker in
         record {
-          within = let n : length w2.letters.requests.items ≡ length (take at cur) + length (drop (at + 1) cur) = ap length now ∙ length-append (take at cur) (drop (at + 1) cur) in omega (arith, n, long);
-          done = so.done ++ h ∷ [];
-          v = record w2 { letters = v.letters };
-          split = so.split ∙ ap (λ xs. so.done ++ xs) (next ∙ ap (λ xs. h ∷ xs) (sym later)) ∙ sym (append_assoc so.done (h ∷ []) (drop at w2.letters.requests.items));
-          lets = joined so.done h w0 v (record w2 { letters = v.letters }) s0 s s2 so.lets one;
-          passed = before ∙ so.passed ∙ sym (filter-append (λ (x : Held). not (x.worker == w0.index)) so.done (h ∷ []) ∙ ap (λ b. others_of w0.index so.done ++ (if not b then h ∷ [] else [])) (same_so h.worker w0.index (mine ∙ same ∙ so.index)) ∙ append-nil (others_of w0.index so.done));
-          may = subst (λ xs. MayLetGoAll xs (record w2 { letters = v.letters }) s2) (sym later) (both.1 (record w2 { letters = v.letters }) s2 one);
-          index = ap (λ (x : Worker). x.index) lets.worker ∙ ap (λ (x : Worker). x.index) w1_is ∙ same ∙ so.index;
-          timer = ap (λ (x : Letters). x.timer) kept ∙ timer ∙ so.timer;
+          within = omega (arith, inside);
+          items = ap (λ (x : Letters). x.requests.items) kept ∙ so.items;
+          v = v2;
+          lets = passed v2 s2 one;
+          may = both.1 v2 s2 one;
+          index = ap (λ (x : Worker). x.index) lets.worker ∙ same ∙ so.index;
+          timer = ap (λ (x : Letters). x.timer) kept ∙ so.timer;
           worker = refl;
         }
 
     pub pass_this : h.worker ≢ w.index → HeldSoFar hs w0 s0 (at + 1) w s
     pass_this other =
-        let v = so.v in
-        let same = ap (λ (x : Worker). x.index) so.worker in
-        let both = subst (λ xs. MayLetGoAll xs v s) next so.may in
-        let one : LetsGoOne h v v s s = elsewhere (λ mine. other (mine ∙ sym same)) refl refl in
+        let one : LetsGoOne h so.v so.v s s = elsewhere (λ mine. other (mine ∙ sym (ap (λ (x : Worker). x.index) so.worker))) refl refl in
         record {
-          within = omega (arith, more);
-          done = so.done ++ h ∷ [];
-          v = v;
-          split = so.split ∙ ap (λ xs. so.done ++ xs) next ∙ sym (append_assoc so.done (h ∷ []) (drop (at + 1) cur));
-          lets = joined so.done h w0 v v s0 s s so.lets one;
-          passed =
-              take_more cur at h more ∙ ap (λ x. take at cur ++ x ∷ []) (sym is) ∙ ap (λ xs. xs ++ h ∷ []) so.passed
-              ∙ sym (filter-append (λ (x : Held). not (x.worker == w0.index)) so.done (h ∷ []) ∙ ap (λ b. others_of w0.index so.done ++ (if not b then h ∷ [] else [])) (not_same h.worker w0.index (λ mine. other (mine ∙ sym so.index ∙ sym same))));
-          may = both.1 v s one;
+          within = omega (arith, inside);
+          items = so.items;
+          v = so.v;
+          lets = passed so.v s one;
+          may = both.1 so.v s one;
           index = so.index;
           timer = so.timer;
           worker = so.worker;
         }
 
-  -- all were passed
-  pub all_held : (w0 w : Worker) (s0 s : Shared B) (at : ℕ) → HeldSoFar w0.letters.requests.items w0 s0 at w s → length w.letters.requests.items ≤ at → LetsHeld w0 w s0 s
-  all_held w0 w s0 s at so none =
-      let end : drop at w.letters.requests.items ≡ [] = drop_all at w.letters.requests.items none in
-      let whole : take at w.letters.requests.items ≡ w.letters.requests.items = take_all at w.letters.requests.items none in
-      let done_is : so.done ≡ w0.letters.requests.items = sym (so.split ∙ ap (λ xs. so.done ++ xs) end ∙ append-nil so.done) in
+  -- all were passed, and those of others are left
+  pub all_held : (w0 w w' : Worker) (s0 s : Shared B) (at : ℕ) → HeldSoFar w0.letters.requests.items w0 s0 at w s → length w.letters.requests.items ≤ at
+      → w' ≡ record w { letters = w'.letters } → w'.letters.timer ≡ w.letters.timer → w'.letters.requests.items ≡ others_of w.index w.letters.requests.items → LetsHeld w0 w' s0 s
+  all_held w0 w w' s0 s at so none kept timer left =
+      let hs = w0.letters.requests.items in
+      let end : length hs ≤ at = subst (λ xs. length xs ≤ at) so.items none in
+      let same : w.index ≡ w0.index = ap (λ (x : Worker). x.index) so.worker ∙ so.index in
       record {
         v = so.v;
-        lets = subst (λ xs. LetsGoAll xs w0 so.v s0 s) done_is so.lets;
-        requests = sym whole ∙ so.passed ∙ ap (others_of w0.index) done_is;
-        timer = so.timer;
-        worker = so.worker;
+        lets = subst (λ xs. LetsGoAll xs w0 so.v s0 s) (take_all at hs end) so.lets;
+        requests = left ∙ ap (λ i. others_of i w.letters.requests.items) same ∙ ap (others_of w0.index) so.items;
+        timer = timer ∙ so.timer;
+        worker = kept ∙ ap (with_letters w'.letters) so.worker;
       }
 
 -- AND WHAT IT WAITED FOR

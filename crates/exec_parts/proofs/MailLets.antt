@@ -1,5 +1,5 @@
 -- What is let go of, and found by its number.
-use Rattle.std.{proofs.{Common.{◌≡◌, ◌<◌, ◌+◌, ℕ, Bool, true, false, List, refl, Some, sym, ap, subst, ◌∙◌, arith, length, slice_get, get_or, vec_len}, lemmas.Option.slice_get-get_or}, specs.Vec.vec_capacity}
+use Rattle.std.{proofs.{Common.{◌≡◌, ◌<◌, ◌+◌, ℕ, Bool, true, false, List, refl, Some, sym, ap, subst, ◌∙◌, arith, length, slice_get, get_or}, lemmas.Option.slice_get-get_or}, specs.VecDeque.{deque_capacity, deque_len}}
 use Rattle.exec_waiters.specs.declared.deferred.Deferred.{Deferred}
 use Rattle.exec_words.specs.{Reserved.Reserved, declared.inbox.Message.Message}
 use Rattle.exec_machine.specs.{Requests.dropped, declared.state.MailMessage.MailMessage}
@@ -18,7 +18,7 @@ dropped_so r' r shown id sent =
 -- WHAT IS TOLD LEAVES ITS LIST, and there is the room that there was
 
 module _ (left left' : Deferred Reply Reply) where
-  pub fewer_wakes : left' ≡ record left { notes = record left.notes { wakes = left'.notes.wakes } } → vec_len left'.notes.wakes + 1 ≡ vec_len left.notes.wakes → vec_capacity left'.notes.wakes ≡ vec_capacity left.notes.wakes → KeepsRoom left left'
+  pub fewer_wakes : left' ≡ record left { notes = record left.notes { wakes = left'.notes.wakes } } → deque_len left'.notes.wakes + 1 ≡ deque_len left.notes.wakes → deque_capacity left'.notes.wakes ≡ deque_capacity left.notes.wakes → KeepsRoom left left'
   fewer_wakes same less room = λ ended live told.
       subst (λ x. IsTold ended x live) (sym same)
       (record {
@@ -31,7 +31,7 @@ module _ (left left' : Deferred Reply Reply) where
         };
       })
 
-  pub fewer_results : left' ≡ record left { results = left'.results } → vec_len left'.results + 1 ≡ vec_len left.results → vec_capacity left'.results ≡ vec_capacity left.results → KeepsRoom left left'
+  pub fewer_results : left' ≡ record left { results = left'.results } → deque_len left'.results + 1 ≡ deque_len left.results → deque_capacity left'.results ≡ deque_capacity left.results → KeepsRoom left left'
   fewer_results same less room = λ ended live told.
       subst (λ x. IsTold ended x live) (sym same)
       (record {

@@ -1,5 +1,5 @@
 -- What messages of other workers do, and what callbacks send to tasks elsewhere.
-use Rattle.std.specs.{Prelude.{◌≡◌, ℕ, ◌+◌, ◌^◌, ◌<◌, ◌==◌, Bool, true, false, not, [], drop, length, map, slice_get, slice_set, Some, None, if◌then◌else◌, Ok, Err}, Vec.vec_capacity}
+use Rattle.std.specs.{Prelude.{◌≡◌, ℕ, ◌+◌, ◌^◌, ◌<◌, ◌==◌, Bool, true, false, not, [], drop, length, map, slice_get, slice_set, Some, None, if◌then◌else◌, Ok, Err}, VecDeque.deque_capacity}
 use Rattle.exec_base.specs.{Slab.{removed, value_at, written}, OneShot.sent, declared.{error.Error.TheVariants.Closed, task_no.TaskNo.TaskNo}}
 use Rattle.exec_time.specs.{Notes.{Adds, HasRoom}, Sleepers.{completions_of, is_forwarded}, declared.{notes.ForwardedResult.ForwardedResult, timers.{Observer.TheVariants.Forwarded, Sleeper.Sleeper as Sleeping}}}
 use Rattle.exec_waiters.specs.{Events.{forwarded, told_by_forward}, Told.{HasPlaces, Tells}, declared.deferred.Answer.Answer}
@@ -147,7 +147,7 @@ module _ {B : Type 0} where
     pub v : Worker
     pub wakes : v.home.deferred.notes.wakes.items ≡ drop 1 w.home.deferred.notes.wakes.items
     pub room : KeepsRoom w.home.deferred v.home.deferred
-    pub wide : vec_capacity v.home.deferred.notes.wakes ≡ vec_capacity w.home.deferred.notes.wakes
+    pub wide : deque_capacity v.home.deferred.notes.wakes ≡ deque_capacity w.home.deferred.notes.wakes
     pub worker : v ≡ record w { home = record w.home { deferred = record w.home.deferred { notes = record w.home.deferred.notes { wakes = v.home.deferred.notes.wakes } } } }
     pub wakes_it : WakesWaiter n.0 next v w' paid s' e
 
@@ -177,7 +177,7 @@ module _ {B : Type 0} where
     pub kept : s' ≡ record s { sleepers = s'.sleepers }
     pub completions : w'.home.deferred.notes.completions.items ≡ drop 1 w.home.deferred.notes.completions.items
     pub room : KeepsRoom w.home.deferred w'.home.deferred
-    pub wide : vec_capacity w'.home.deferred.notes.completions ≡ vec_capacity w.home.deferred.notes.completions
+    pub wide : deque_capacity w'.home.deferred.notes.completions ≡ deque_capacity w.home.deferred.notes.completions
     pub place : OfSlot t s (λ slot. w'.place ≡ after_sending_of (not (is_complete slot.cell.phase)) t (Heard.Timer z) next w')
     pub worker : w' ≡ record w { place = w'.place; home = record w.home { deferred = record w.home.deferred { notes = record w.home.deferred.notes { completions = w'.home.deferred.notes.completions } } } }
 
@@ -204,7 +204,7 @@ module _ {B : Type 0} where
     pub kept : s' ≡ record s { tasks = s'.tasks; requests = s'.requests }
     pub results : w'.home.deferred.results.items ≡ drop 1 w.home.deferred.results.items
     pub room : KeepsRoom w.home.deferred w'.home.deferred
-    pub wide : vec_capacity w'.home.deferred.results ≡ vec_capacity w.home.deferred.results
+    pub wide : deque_capacity w'.home.deferred.results ≡ deque_capacity w.home.deferred.results
     pub place : w'.place ≡ after_sending_of (not (is_complete slot.cell.phase)) t (Heard.Request k) next w'
     pub worker : w' ≡ record w { place = w'.place; home = record w.home { deferred = record w.home.deferred { results = w'.home.deferred.results } } }
 

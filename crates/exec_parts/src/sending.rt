@@ -86,13 +86,13 @@ impl Worker {
         let mut at = 0;
         'held: while at < self.letters.requests.len() {
             let held = self.letters.requests[at];
+            at += 1;
             if held.worker == self.index {
-                self.letters.requests.remove(at);
                 self.orphan_request(held.number, shared);
-            } else {
-                at += 1;
             }
         }
+        let mine = self.index;
+        self.letters.requests.retain(|held| held.worker != mine);
     }
 
     // Lets go of a sleeper that nobody waits for any more, or has its worker told next.

@@ -257,7 +257,19 @@ module _ {B : Type 0} where
             };
             order = begins_ordered (horizon s.config) s.config.tick s.clock (wheel_slots s.config) d.slots d.wheel (ap (λ l. l.enrolments) d.lists) (ap (λ l. l.due) d.lists);
           };
-          flown = grind (arith, d.ring, n.staged_room, n.untold_room, not_live, has.nothing, tt, d.armed, has.owning);
+          flown = record {
+            ending = rw n.unreleased (omega arith);
+            staging = rw d.ring n.staged_room;
+            telling = rw d.ring n.untold_room;
+            entries = rw (n.staged, n.untold) (omega arith);
+            gated = λ id it live needs. not_live _ id.0 it live;
+            plain = λ k x found own. absurd (has.nothing k x found own);
+            landed = rw d.ring tt;
+            enrolling = λ id it live takes told. not_live _ id.0 it live;
+            polled = rw (d.ring, d.armed) refl;
+            owning = has.owning;
+            uncancelled = λ id x among found own. absurd (has.nothing _ x found own);
+          };
           carried = grind (arith, not_live, d.ring, has.room);
           rooted = record {
             kept = λ id told x at found. absurd (not_both (value_at (driver_of w).requests id) _ (none_live (driver_of w).requests id d.slots) at);

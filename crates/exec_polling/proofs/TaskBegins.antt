@@ -3,12 +3,12 @@ use Rattle.std.proofs.{Common.{◌≡◌, ◌≢◌, ◌⊎◌, inl, inr, ℕ, �
 use Rattle.exec_base.specs.{Slab.{live_count, value_at, written}, declared.{one_shot.OneShotState.TheVariants.Open, slab.Id.Id}}
 use Rattle.exec_words.specs.declared.inbox.Message.{Message}
 use Rattle.exec_ring.specs.Rings.{completions}
-use Rattle.exec_waiters.{specs.{Events.{changed, changed_from, with_waker}, States.{is_held_by, waiter_at}, declared.{observer.Observer.TheVariants.{Forwarded}, waiter.{Entry.{TheVariants.Pending}, Waiter.Waiter}}}, proofs.Changes.{entry_of, one_if}}
+use Rattle.exec_waiters.{specs.{Events.{changed, changed_from, with_waker}, States.{flying_count, is_held_by, waiter_at}, declared.{observer.Observer.TheVariants.{Forwarded}, waiter.{Entry.{TheVariants.Pending}, Waiter.Waiter}}}, proofs.Changes.{entry_of, one_if}}
 use Rattle.exec_driver.specs.{Driving.Driving, Punctual.IsPunctual}
 use Rattle.exec_task.specs.{Phases.is_polled, Sight.Sight, declared.body.{Act.Act, Said.Said}}
-use Rattle.exec_machine.specs.{declared.{config.ScriptWord.ScriptWord, event.Event.{Event, TheVariants.Wait}, state.{Forwarding.{TheVariants.Unsent}, MailMessage.TheVariants.ForwardRequest, RequestPhase.RequestPhase, Waiting.Waiting}}, Choice.Choice.Plain, Progress.Plan, Same.is_number, Tasks.{waits_for, without_newest}, Tests.{is_resolved, is_unsent}, Words.{asks_await, moved_on, newest_held, next_word}, World.{Common, Task, request_of, task_of}}
+use Rattle.exec_machine.specs.{declared.{config.ScriptWord.ScriptWord, event.Event.{Event, TheVariants.Wait}, state.{Forwarding.{TheVariants.Unsent}, MailMessage.TheVariants.ForwardRequest, RequestPhase.RequestPhase, Waiting.Waiting}}, Choice.Choice.Plain, Progress.Plan, Same.is_number, Tasks.{waits_for, without_newest}, Tests.{is_resolved, is_unsent}, Words.{asks_await, moved_on, newest_held, next_word}, World.{Common, Own, Task, request_of, task_of}}
 use Rattle.exec_moves.specs.{declared.{handing.AfterSend.AfterSend, place.{InPoll.InPoll, Place.Place}}, Move.move_look_at, Poll.{Sight.{Asks, HearsRequest}, await, sight_by, stops}, State.{Desk, Moved, Things, does}, Thing.aside, Told.awaits}
-use Rattle.exec_parts.{specs.{declared.parts.{mail.{Reply.Reply, Subject.Subject}, record.Record.Record, shared.Shared.Shared, task_slot.TaskSlot.TaskSlot, worker.Worker.Worker}, Awaits.{BeganWait, awaited_by, newest_of}, Records.{number_in, numbers_held}, Scripts.{IsAnswer, IsAnswered, held_after}, Serving.{changed_at, changed_in}, Spots.Spot, View.{Views, awaited_from, common_of, desk_of, driver_of, numbers_of_passing, own_of, slots_seen, task_seen, things_with, trailing, visible, with_view}}, proofs.Facts.{same_Some, set_there}}
+use Rattle.exec_parts.{specs.{declared.parts.{mail.{Reply.Reply, Subject.Subject}, record.Record.Record, shared.Shared.Shared, task_slot.TaskSlot.TaskSlot, worker.Worker.Worker}, Awaits.{BeganWait, awaited_by, newest_of}, Records.{number_in, numbers_held}, Scripts.{IsAnswer, IsAnswered, held_after}, Serving.{changed_at, changed_in}, Spots.Spot, View.{Views, awaited_from, common_of, desk_of, driver_of, numbers_of, numbers_of_passing, own_of, slots_seen, task_seen, things_with, trailing, visible, with_view}}, proofs.Facts.{same_Some, set_there}}
 use Rattle.exec_invariants.{specs.{Acting.{HasActed, StepsOf}, Due.IsDue, Flown.HasFlown, Hearing.CanHear, Holding.{Box, Holder, IsForwarded, IsHolding, Mail, awaited_in, box_of, holder_of, nap_of, thing_of, under_way}, HoldPlaces.{has_wakes_at, is_bare_at}, Names.{IsAlike, tellers}, Sound.{MayStop, SoundAt, served_in}, Whole.{HasWhole, Profile, hands_of, with_worker}, Works.{Beside, Suits, Works}}, proofs.{Acting.{IsActor, actor, acts_so, moved_seen}, Changing.{changes_one, live_still, pending_still}, HeldCounts.held_written, Here.{IsHere, going_on, polled_here}, HoldBeside.Holds, HoldWaits.thing_awaited, Keys.{name_in, names_changed, same_gates, same_opens}, LetRooted.{Rewaits, keeps_watched}, Lined.{opens_same, passing_same}, Orders.alike_self, Pending.in_poll, Performing.{performs_on, still_performs}, Resolving.places_fewer, Seen.request_at, ServingHolds.KeepsBy, Serving.spares_one, Slots.task_there, Slotted.slots_written, SparedRecord.there_within, TaskDeals.{Dealt, ends as to_end, from_act}, TaskGets.ring_seen, TaskHears.thing_there, TaskHomes.{Homes, beside_goes, sound_goes}, TaskNewest.{StillPends, newest_unsent, still_pends}, TaskTakes.{holder_there, holders_one}, TaskWants.{HoldsNewest, newest_is}, Turning.{set_found, view_found}, Watching.{Watched, still_pending, watched}, AsksEnds.is_unsent_so, LetShown.same_flight}}
 use Rattle.exec_polling.proofs.{SlotAwaits.awaited_more, TaskAwaits.await_looks}
 
@@ -31,6 +31,15 @@ desk_with w t y =
       entries = length y.ring.staged;
       polled = y.armed;
       others = trailing 0 (completions y.ring);
+    }
+
+abbrev own_with : Worker → ℕ → Driving Reply Reply → Own
+own_with w t y =
+    record (own_of (record w { place = Place.Poll t InPoll.Pend })) {
+      ready = numbers_of w.names.requests.items y.lists.queued;
+      unenrolled = numbers_of w.names.requests.items y.lists.enrolments;
+      cancels = numbers_of w.names.requests.items y.lists.cancels;
+      in_flight = flying_count y.requests;
     }
 
 module _ {B : Type 0} where
@@ -180,7 +189,10 @@ module _ {B : Type 0} where
       ∙ ap (λ m. stops t (awaits m (desk_of (record w { place = Place.Poll t InPoll.Act })))) by.pends.number
 
   pub waits_own : (t k : ℕ) (w w' : Worker) (s s' : Shared B) (slot : TaskSlot B) (b' : B) (r : Record) → BeginsWait t k w w' s s' slot b' r → own_of w' ≡ own_of (record w { place = Place.Poll t InPoll.Pend })
-  waits_own = grind (arith, same_flight)
+  waits_own t k w w' s s' slot b' r by =
+      let d = driver_of w in
+      ap own_of by.worker ∙ ap (own_with w t) by.driver
+      ∙ ap (λ m. record (own_of (record w { place = Place.Poll t InPoll.Pend })) { in_flight = m }) (same_flight d.requests r.id.0 by.pends.it (with_waker (record { 0 = t }) by.pends.it) by.pends.live refl)
 
 module _ {B L : Type 0} (left : B → L) (runs : L → Plan → Option ℕ → Type 0) (holds : L → Option Said → List ℕ) (spot : L → Option Said → Spot) (gives : L → Option Sight → Said → Act B → L → Option Sight → Type 0) (answered : IsAnswered spot) where
   -- WHAT THE MACHINE AND THE MOVES MAKE OF IT

@@ -120,7 +120,7 @@ impl Desk {
 
     /// The tasks that are to be woken.
     pub fn wakes(&self) -> &[TaskNo] {
-        self.home.deferred.notes.wakes.as_slice()
+        self.home.deferred.notes.wakes.as_slices().0
     }
 
     /// The worker closes.
@@ -145,12 +145,12 @@ impl Desk {
 
     /// The result that is to be sent on, with its sender.
     pub fn take_result(&mut self) -> Option<Answer<u32>> {
-        self.home.deferred.results.pop()
+        self.home.deferred.results.pop_back()
     }
 
     /// The outcome that is to be sent last, with its sender.
     pub fn take_completion(&mut self) -> Option<ForwardedResult<u32>> {
-        self.home.deferred.notes.completions.pop()
+        self.home.deferred.notes.completions.pop_back()
     }
 
     /// Registers a readiness poll of listener 1. None where memory is wanting.

@@ -10,6 +10,7 @@ ghost use Rattle.exec_time.specs.Notes.{HasRoom, Adds};
 use exec_base::error::Error;
 use exec_base::task_no::TaskNo;
 use std::alloc::{AllocError, Global};
+use std::collections::VecDeque;
 
 /// A result for who waits elsewhere, with the way to send it.
 #[derive(Drop)]
@@ -24,9 +25,9 @@ pub struct ForwardedResult<S> {
 #[derive(Drop)]
 pub struct Notes<S> {
     /// The tasks to be woken.
-    pub wakes: Vec<TaskNo>,
+    pub wakes: VecDeque<TaskNo>,
     /// The results to be sent.
-    pub completions: Vec<ForwardedResult<S>>,
+    pub completions: VecDeque<ForwardedResult<S>>,
 }
 
 impl<S> Notes<S> {
@@ -36,8 +37,8 @@ impl<S> Notes<S> {
         ensures completions { result.completions.items ≡ [] }
     {
         Notes {
-            wakes: Vec::new(alloc),
-            completions: Vec::new(alloc),
+            wakes: VecDeque::new(alloc),
+            completions: VecDeque::new(alloc),
         }
     }
 

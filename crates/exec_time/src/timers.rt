@@ -165,7 +165,7 @@ impl<S: Drop> Timers<S> {
         ensures gone { value_at self.old id.0 ≡ None → (self.new ≡ self.old) × Adds notes.old notes.new [] (completions_of (Ok tt) (Forwarded sender)) }
     {
         let Some(sleeper) = self.sleepers.get_mut(id.0) else {
-            notes.completions.push_reserved(ForwardedResult {
+            notes.completions.push_back_reserved(ForwardedResult {
                 sender,
                 result: Ok(()),
             });
@@ -193,7 +193,7 @@ impl<S: Drop> Timers<S> {
         } = sleeper;
         match observer {
             Observer::Local(_unwoken) => {}
-            Observer::Forwarded(sender) => notes.completions.push_reserved(ForwardedResult {
+            Observer::Forwarded(sender) => notes.completions.push_back_reserved(ForwardedResult {
                 sender,
                 result: Err(Error::Closed),
             }),
@@ -328,8 +328,8 @@ fn tell<S: Drop>(observer: Observer<S>, result_told: Result<(), Error>, notes: &
     ensures { Adds notes.old notes.new (wakes_of observer) (completions_of result_told observer) }
 {
     match observer {
-        Observer::Local(waker) => notes.wakes.push_reserved(waker),
-        Observer::Forwarded(sender) => notes.completions.push_reserved(ForwardedResult {
+        Observer::Local(waker) => notes.wakes.push_back_reserved(waker),
+        Observer::Forwarded(sender) => notes.completions.push_back_reserved(ForwardedResult {
             sender,
             result: result_told,
         }),

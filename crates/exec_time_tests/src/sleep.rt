@@ -136,7 +136,7 @@ fn a_sleep_is_over_once_its_sleeper_fired(rt: HostRuntime) -> Result<(), Fail> {
     same!(&rt; (bed.timers.len(), bed.timers.next_deadline()), (1, Some(15)));
     notes.reserve(alloc, bed.timers.len())?;
     bed.timers.expire(15, &mut notes);
-    same!(&rt; notes.wakes.as_slice(), [TaskNo(1)].as_slice());
+    same!(&rt; notes.wakes.as_slices().0, [TaskNo(1)].as_slice());
     let last = bed.poll(&rt, alloc, &mut sleep, home(15));
     same!(&rt; last, Ok(true));
     holds!(&rt; matches!(sleep.state(), SleepState::Done));

@@ -17,7 +17,7 @@ fn sleepers_are_named_in_order_and_fire_by_deadline(rt: HostRuntime) -> Result<(
     same!(&rt; (timers.len(), timers.next_deadline()), (2, Some(10)));
     notes.reserve(rt.alloc(), timers.len())?;
     timers.expire(20, &mut notes);
-    same!(&rt; notes.wakes.as_slice(), [TaskNo(2), TaskNo(1)].as_slice());
+    same!(&rt; notes.wakes.as_slices().0, [TaskNo(2), TaskNo(1)].as_slice());
     same!(&rt; (timers.len(), timers.next_deadline()), (0, None));
     Ok(())
 }

@@ -1,6 +1,6 @@
 -- What is to be told and let go, and for how much more there is room.
-use Rattle.std.specs.Prelude.{◌≡◌, ℕ, Bool, ◌+◌, ◌≤◌, ◌==◌, ◌&&◌, List, [], ◌∷◌, ◌++◌, length, Option, Some, None, vec_len}
-use Rattle.std.specs.Vec.{vec_capacity}
+use Rattle.std.specs.Prelude.{◌≡◌, ℕ, Bool, ◌+◌, ◌≤◌, ◌==◌, ◌&&◌, List, [], ◌∷◌, ◌++◌, length, Option, Some, None}
+use Rattle.std.specs.VecDeque.{deque_len, deque_capacity}
 use Rattle.exec_base.specs.declared.task_no.TaskNo.{TaskNo}
 use Rattle.exec_time.specs.{declared.notes.ForwardedResult.ForwardedResult, Notes.{HasRoom as HasNotes, Adds}}
 use Rattle.exec_waiters.specs.declared.deferred.{Untaken.Untaken, Retired.Retired, Answer.Answer, Deferred.Deferred}
@@ -28,13 +28,13 @@ module _ {S F : Type 0} where
   -- so many of each can come without memory
   pub record HasPlaces (d : Deferred S F) (n : ℕ) : Type 0 where
     pub notes : HasNotes d.notes n
-    pub outputs : vec_len d.outputs + n ≤ vec_capacity d.outputs
-    pub resources : vec_len d.resources + n ≤ vec_capacity d.resources
-    pub results : vec_len d.results + n ≤ vec_capacity d.results
+    pub outputs : deque_len d.outputs + n ≤ deque_capacity d.outputs
+    pub resources : deque_len d.resources + n ≤ deque_capacity d.resources
+    pub results : deque_len d.results + n ≤ deque_capacity d.results
 
   -- one more wake can come without memory
   abbrev pub HasWakePlace : Deferred S F → Type 0
-  HasWakePlace d = vec_len d.notes.wakes + 1 ≤ vec_capacity d.notes.wakes
+  HasWakePlace d = deque_len d.notes.wakes + 1 ≤ deque_capacity d.notes.wakes
 
   -- these come at the ends of the lists, and the memory doesn't shrink
   pub record Tells (old new : Deferred S F) (told : Told S F) : Type 0 where
@@ -42,9 +42,9 @@ module _ {S F : Type 0} where
     pub outputs_added : new.outputs.items ≡ old.outputs.items ++ told.outputs
     pub resources_added : new.resources.items ≡ old.resources.items ++ told.resources
     pub results_added : new.results.items ≡ old.results.items ++ told.results
-    pub outputs_memory : vec_capacity old.outputs ≤ vec_capacity new.outputs
-    pub resources_memory : vec_capacity old.resources ≤ vec_capacity new.resources
-    pub results_memory : vec_capacity old.results ≤ vec_capacity new.results
+    pub outputs_memory : deque_capacity old.outputs ≤ deque_capacity new.outputs
+    pub resources_memory : deque_capacity old.resources ≤ deque_capacity new.resources
+    pub results_memory : deque_capacity old.results ≤ deque_capacity new.results
 
   abbrev pub is_untold : Deferred S F → Bool
   is_untold d =

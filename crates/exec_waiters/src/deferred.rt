@@ -14,6 +14,7 @@ use exec_base::task_no::TaskNo;
 use exec_request::output::{RequestOutput, RetiredResources};
 use exec_time::notes::{ForwardedResult, Notes};
 use std::alloc::{AllocError, Global};
+use std::collections::VecDeque;
 
 /// An output that nobody takes any more.
 #[derive(Drop)]
@@ -51,11 +52,11 @@ pub struct Deferred<S, F> {
     /// The tasks to be woken, and the outcomes of sleepers and detached syncs to be sent.
     pub notes: Notes<S>,
     /// The outputs to be let go.
-    pub outputs: Vec<Untaken>,
+    pub outputs: VecDeque<Untaken>,
     /// What ended requests owned, to be let go.
-    pub resources: Vec<Retired>,
+    pub resources: VecDeque<Retired>,
     /// The outputs to be sent.
-    pub results: Vec<Answer<F>>,
+    pub results: VecDeque<Answer<F>>,
 }
 
 impl<S: Drop, F: Drop> Deferred<S, F> {
@@ -69,9 +70,9 @@ impl<S: Drop, F: Drop> Deferred<S, F> {
     {
         Deferred {
             notes: Notes::new(alloc),
-            outputs: Vec::new(alloc),
-            resources: Vec::new(alloc),
-            results: Vec::new(alloc),
+            outputs: VecDeque::new(alloc),
+            resources: VecDeque::new(alloc),
+            results: VecDeque::new(alloc),
         }
     }
 
@@ -103,7 +104,7 @@ impl<S: Drop, F: Drop> Deferred<S, F> {
         ensures { Tells self.old self.new (awake waker) }
     {
         if let Some(task) = waker {
-            self.notes.wakes.push_reserved(task);
+            self.notes.wakes.push_back_reserved(task);
         }
     }
 
@@ -113,7 +114,7 @@ impl<S: Drop, F: Drop> Deferred<S, F> {
         ensures { Tells self.old self.new (told_to id.0 observer) }
     {
         match observer {
-            Observer::Forwarded(sender) => self.results.push_reserved(Answer {
+            Observer::Forwarded(sender) => self.results.push_back_reserved(Answer {
                 id,
                 sender,
                 result: Err(Error::Closed),
@@ -133,7 +134,7 @@ impl<S: Drop, F: Drop> Deferred<S, F> {
         ensures { Tells self.old self.new (output_told id.0 output observer) }
     {
         match observer {
-            Observer::Forwarded(sender) => self.results.push_reserved(Answer {
+            Observer::Forwarded(sender) => self.results.push_back_reserved(Answer {
                 id,
                 sender,
                 result: Ok(output),
@@ -142,10 +143,10 @@ impl<S: Drop, F: Drop> Deferred<S, F> {
                 RequestOutput::Sync(result) => self
                     .notes
                     .completions
-                    .push_reserved(ForwardedResult { sender, result }),
+                    .push_back_reserved(ForwardedResult { sender, result }),
                 _ => unreachable!(),
             },
-            Observer::Orphaned => self.outputs.push_reserved(Untaken { id, output }),
+            Observer::Orphaned => self.outputs.push_back_reserved(Untaken { id, output }),
             Observer::Local(_) => unreachable!(),
         }
     }

@@ -226,8 +226,8 @@ impl<R: Ring + Drop, S: Drop, F: Drop> Driver<R, S, F> {
         ensures places { OnOk result (HasPlaces deferred.new (2 * (live_count (seen self.old).requests + 1) + 1)) }
     {
         let count = self.waiters.len().checked_add(1).ok_or(AllocError)?;
-        self.lists.reserve(count)?;
         let live = self.waiters.live().checked_add(1).ok_or(AllocError)?;
+        self.lists.reserve(live)?;
         let later = live.checked_mul(2).ok_or(AllocError)?;
         deferred.reserve(alloc, later.checked_add(1).ok_or(AllocError)?)?;
         Ok(count)

@@ -66,7 +66,7 @@ impl<S: Drop, F: Drop> Waiters<S, F> {
         };
         deferred
             .results
-            .push_reserved(Answer { id, sender, result });
+            .push_back_reserved(Answer { id, sender, result });
     }
 
     /// Nobody waits for the request from now on. Answers whether it is to be cancelled, which writes and syncs are
@@ -79,7 +79,7 @@ impl<S: Drop, F: Drop> Waiters<S, F> {
         ensures told { Tells deferred.old deferred.new (told_by_orphan id.0 (value_at self.old id.0)) }
     {
         if let Some(output) = self.take_output(id) {
-            deferred.outputs.push_reserved(Untaken { id, output });
+            deferred.outputs.push_back_reserved(Untaken { id, output });
             return false;
         }
         let Some(waiter) = self.get(id) else {

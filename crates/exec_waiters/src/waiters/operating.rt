@@ -162,7 +162,9 @@ impl<S: Drop, F: Drop> Waiters<S, F> {
         let (output, resources) = waiter.request.complete(ended, open_);
         *entry = Entry::Ready(output);
         deferred.wake(waker);
-        deferred.resources.push_reserved(Retired { id, resources });
+        deferred
+            .resources
+            .push_back_reserved(Retired { id, resources });
         tick
     }
 
@@ -194,7 +196,9 @@ impl<S: Drop, F: Drop> Waiters<S, F> {
         let (output, resources) = request.complete(ended, open_);
         deferred.deliver(id, output, observer);
         // Last, since what is told before asks for a place in each list.
-        deferred.resources.push_reserved(Retired { id, resources });
+        deferred
+            .resources
+            .push_back_reserved(Retired { id, resources });
         tick
     }
 }

@@ -10,8 +10,8 @@ returns g c =
     let w = c.args.worker.now in
     let s = c.args.shared.now in
     let may = c.requires.may in
-    let a0 = c.remove-result.result in
-    let first = found_at w.home.deferred.results.items 0 a0 may.some c.remove-result.ensures.value in
+    let a0 = c.take_first-result.result in
+    let first = found_at w.home.deferred.results.items 0 a0 may.some c.take_first-result.ensures.value in
     let k = c.in-Request.request in
     let t = a0.sender.task.0 in
     let r = c.index_mut.result.now in
@@ -20,8 +20,8 @@ returns g c =
     let number : k ≡ may.k = ap number_heard (sym c.in-Request.is ∙ ap (λ (x : Reply). x.of) sender ∙ may.of) in
     let known = subst (λ n. n < length s.requests.items) (sym number) may.known in
     let there = subst (λ (x : Reply). x.task.0 < length s.tasks.items) (sym sender) may.there in
-    let v : Worker = record w { home = record w.home { deferred = record w.home.deferred { results = c.remove-result.new.self } } } in
-    let w' : Worker = record w { place = c.after_sending-worker.result; home = record w.home { deferred = record w.home.deferred { results = c.remove-result.new.self } } } in
+    let v : Worker = record w { home = record w.home { deferred = record w.home.deferred { results = c.take_first-result.new.list } } } in
+    let w' : Worker = record w { place = c.after_sending-worker.result; home = record w.home { deferred = record w.home.deferred { results = c.take_first-result.new.list } } } in
     let made : SendsOutput {B = g.row.B.Denot} t k c.args.next w w' s (record s { tasks = with_item s.tasks t c.send_output-hears.new.self; requests = with_item s.requests k (record r { sent = true }) }) Turn =
     record {
       event = refl;
@@ -34,9 +34,9 @@ returns g c =
       first = first;
       tasks = ap (slice_set s.tasks.items t) c.send_output-hears.ensures.sent;
       kept = refl;
-      results = c.remove-result.ensures.by_index.2;
-      room = fewer_results w.home.deferred (record w.home.deferred { results = c.remove-result.new.self }) refl c.remove-result.ensures.len c.remove-result.ensures.capacity;
-      wide = c.remove-result.ensures.capacity;
+      results = c.take_first-result.ensures.rest;
+      room = fewer_results w.home.deferred (record w.home.deferred { results = c.take_first-result.new.list }) refl c.take_first-result.ensures.len c.take_first-result.ensures.capacity;
+      wide = c.take_first-result.ensures.capacity;
       place = c.after_sending-worker.ensures ∙ ap (λ b. after_sending_of b t (Heard.Request k) c.args.next v) c.send_output-hears.ensures.hears ∙ sending_anywhere (not (is_complete o.cell.phase)) t (Heard.Request k) c.args.next v c.after_sending-worker.result;
       worker = refl;
     } in

@@ -7,10 +7,10 @@ returns g c =
     let w = c.args.worker.now in
     let s = c.args.shared.now in
     let may = c.requires.may in
-    let n = c.remove-number.result in
-    let first = found_at w.home.deferred.notes.wakes.items 0 n may.some c.remove-number.ensures.value in
+    let n = c.take_first-number.result in
+    let first = found_at w.home.deferred.notes.wakes.items 0 n may.some c.take_first-number.ensures.value in
     let slot = c.index.result.now in
-    let left = record w.home.deferred { notes = record w.home.deferred.notes { wakes = c.remove-number.new.self } } in
+    let left = record w.home.deferred { notes = record w.home.deferred.notes { wakes = c.take_first-number.new.list } } in
     record {
       wakes = record {
         n = n;
@@ -21,10 +21,10 @@ returns g c =
         requests = c.pay.ensures.requests ∙ ap (λ u. records_paid u s.requests.items) c.waiting-waited.ensures;
         sleepers = c.pay.ensures.sleepers ∙ ap (λ u. sleepers_paid u s.sleepers.items) c.waiting-waited.ensures;
         kept = refl;
-        v = record w { home = record w.home { deferred = record w.home.deferred { notes = record w.home.deferred.notes { wakes = c.remove-number.new.self } } } };
-        wakes = c.remove-number.ensures.by_index.2;
-        room = fewer_wakes w.home.deferred left refl c.remove-number.ensures.len c.remove-number.ensures.capacity;
-        wide = c.remove-number.ensures.capacity;
+        v = record w { home = record w.home { deferred = record w.home.deferred { notes = record w.home.deferred.notes { wakes = c.take_first-number.new.list } } } };
+        wakes = c.take_first-number.ensures.rest;
+        room = fewer_wakes w.home.deferred left refl c.take_first-number.ensures.len c.take_first-number.ensures.capacity;
+        wide = c.take_first-number.ensures.capacity;
         worker = refl;
         wakes_it = c.wake_waiter.ensures.wakes;
       };

@@ -1,6 +1,11 @@
-use Rattle.std.proofs.{Common.{◌≡◌, ◌++◌, None, refl, sym, ap, ◌∙◌, arith, option_to_list, slice_set}, lemmas.List.append-nil}
+use Rattle.std.proofs.{Common.{◌≡◌, ◌++◌, true, None, IsSome, Result, Ok, Err, OnOk, is_ok, refl, sym, ap, ◌∙◌, arith, option_to_list, slice_set}, lemmas.{Bool.false≢true, List.append-nil}}
+use Rattle.exec_parts.specs.declared.parts.nursery.Nursery.{Nursery}
 use Rattle.exec_core.proofs.{Applying.let_on_there, Taking.{goes_there, none_by, read_in, whole_there, work_stays, work_steps, work_within}}
 use Rattle.exec_core.proofs.executor.Core.work.Goals as goal
+
+when_ok : {A E P : Type 0} (r : Result A E) → is_ok r ≡ true → OnOk r P → P
+when_ok (Ok x) ok so = so
+when_ok (Err e) ok so = absurd (false≢true ok)
 
 pub step-stepped-requires-clause-sound : goal.step-stepped-requires-clause-sound
 step-stepped-requires-clause-sound g c =
@@ -24,7 +29,11 @@ step-stepped-requires-clause-let_on g c =
     let_on_there c.args.self.now c.args.worker c.index_mut.result.now stands there c.requires.enabled
 
 pub push_reserved-requires : goal.push_reserved-requires
-push_reserved-requires g c = grind arith
+push_reserved-requires g c =
+    let some : IsSome c.step-stepped.new.nursery.born = rw c.in-Some.is refl in
+    let had : is_ok c.reserve.result ≡ true = sym c.is_ok.ensures.value ∙ sym (ap (λ (n : Nursery). n.has_room) c.new-nursery.ensures) ∙ c.step-stepped.ensures.room some in
+    let room = when_ok c.reserve.result had c.reserve.ensures.ok in
+    omega (arith, room)
 
 pub returns-in-Some-clause-steps : goal.returns-in-Some-clause-steps
 returns-in-Some-clause-steps g c =

@@ -1,5 +1,5 @@
 use Rattle.std.proofs.Common.{◌≡◌, ◌+◌, None, sym, ◌∙◌, arith, rules}
-use Rattle.exec_driver.specs.{Service.{NoGate, NextGate}}
+use Rattle.exec_driver.specs.{Driving.seen, Service.{NoGate, NextGate}}
 use Rattle.exec_driver.proofs.{Serving.{serves_itself, serves_both, done_itself, done_both}, Turns.{gate_from, added_tells}, Service.none_added}
 use Rattle.exec_driver.proofs.driver.Driver.grant_all.Goals as goal
 
@@ -7,7 +7,10 @@ pub gates-init : goal.gates-init
 gates-init g c = (serves_itself _ _, done_itself _, NoGate)
 
 pub gates-smaller : goal.gates-smaller
-gates-smaller g c = grind (arith, gate_from, added_tells)
+gates-smaller g c =
+    let next = added_tells c.in-Some.file c.checked_add.result c.in-Some-checked_add.next c.checked_add.ensures c.in-Some-checked_add.is in
+    let ahead = gate_from c.gates.from (seen c.gates.self).requests (seen c.gates.self).lists.gated None (λ f is. absurd (cc)) c.in-Some.file (sym c.next_gate.ensures ∙ c.in-Some.is) in
+    omega (arith, next.0, next.1, ahead)
 
 pub gates-preserved : goal.gates-preserved
 gates-preserved g c =

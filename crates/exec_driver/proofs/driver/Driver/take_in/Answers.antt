@@ -139,6 +139,9 @@ returns-clause-punctual g c = λ p.
 pub returns-in_err-id-clause-punctual : goal.returns-in_err-id-clause-punctual
 returns-in_err-id-clause-punctual g c = grind (arith, rooms_punctual)
 
+pub returns-then-is_err-clause-punctual : goal.returns-then-is_err-clause-punctual
+returns-then-is_err-clause-punctual g c = grind (arith, rooms_punctual)
+
 pub returns-in_err-id-clause-refused : goal.returns-in_err-id-clause-refused
 returns-in_err-id-clause-refused g c =
     let same = rw (← c.self.view_is) at c.make_places.ensures.same in

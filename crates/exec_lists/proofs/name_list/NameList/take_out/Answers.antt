@@ -1,8 +1,8 @@
-use Rattle.std.proofs.Common.{◌≡◌, ◌+◌, ◌-◌, ◌<◌, ◌≤◌, length, sym, refl, arith}
-use Rattle.exec_lists.specs.Due.{in_slot}
+use Rattle.std.proofs.Common.{◌≡◌, ◌+◌, ◌-◌, ◌<◌, ◌≤◌, length, length-set, sym, refl, arith}
+use Rattle.exec_lists.specs.NameList.{in_slot}
 use Rattle.exec_lists.proofs.Shifts.{unchanged}
-use Rattle.exec_lists.proofs.Slots.{read_count, counted_set, counted_beyond, in_slot_without, in_other_slot}
-use Rattle.exec_lists.proofs.due.Due.take_out.Goals as goal
+use Rattle.exec_lists.proofs.Slots.{within_without, read_count, counted_set, counted_beyond, in_slot_without, in_other_slot}
+use Rattle.exec_lists.proofs.name_list.NameList.take_out.Goals as goal
 use Rattle.exec_lists.proofs.Names.{fewer_without}
 
 pub returns-then-not-may_have-clause-names : goal.returns-then-not-may_have-clause-names
@@ -29,7 +29,7 @@ invariant_of-self c =
     let gone : in_slot slot c.take_out.new.list.items + length w.names.items ≡ in_slot slot w.names.items + length c.take_out.new.list.items = rw c.take_out.ensures.items (in_slot_without c.args.id w.names.items) in
     let left : length c.take_out.new.list.items ≤ length w.names.items = rw c.take_out.ensures.items (fewer_without c.args.id w.names.items) in
     let is : (c.index_mut.result.now - (c.len-before.result - c.len-then-slot-len.result)) ≡ in_slot slot c.take_out.new.list.items = omega (arith, read, gone, left, c.len-before.ensures, c.len-then-slot-len.ensures, w.names.ok, c.take_out.new.list.ok) in
-    record { counted = counted_set w.names.items c.take_out.new.list.items w.counts.items slot _ w.counted inside is (rw c.take_out.ensures.items (λ s other. in_other_slot s c.args.id w.names.items other)) }
+    record { counted = counted_set w.names.items c.take_out.new.list.items w.counts.items slot _ w.counted inside is (rw c.take_out.ensures.items (λ s other. in_other_slot s c.args.id w.names.items other)); within = grind (arith, length-set, within_without) }
 
 pub invariant_of-self-else-slot-len : goal.invariant_of-self-else-slot-len
-invariant_of-self-else-slot-len c = grind (arith, counted_beyond, in_other_slot)
+invariant_of-self-else-slot-len c = grind (arith, counted_beyond, in_other_slot, within_without)

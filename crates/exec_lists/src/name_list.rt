@@ -1,48 +1,60 @@
-//! Those whose deadline has come, in the order of the wheel.
+//! Names in order of coming, as each place of a driver has them.
 //!
 //! Beside the names it is counted for each slot how many of them have it. So of most names it is known without a look
-//! at the others that they aren't there; of slots without a count nothing is known.
+//! at the others that they aren't there. Requests mostly leave a place in the order in which they came, or the newest
+//! first: a name at either end that is alone in its slot leaves without a look at the others, and any other by a pass
+//! over them. Of a slot without a count nothing is known.
 
-ghost use Rattle.std.specs.Prelude.{◌≡◌, ◌<◌, ◌≤◌, [], ◌∷◌, ◌++◌, false, length, OnOk};
+ghost use Rattle.std.specs.Prelude.{◌≡◌, ◌<◌, ◌≤◌, [], ◌∷◌, ◌++◌, true, false, length, OnOk, IsSome, IfSome};
 ghost use Rattle.std.specs.VecDeque.{deque_capacity};
-ghost use Rattle.exec_lists.specs.{Lists.{without, is_among, first_of, rest_of, has_first}, Due.AreCounted};
+ghost use Rattle.exec_lists.specs.{Lists.{without, is_among, is_same, first_of, rest_of, has_first}, NameList.{AreCounted, are_within, in_slot}};
 
-use crate::lists::{has, take_out};
 use exec_waiters::waiter_id::WaiterId;
 use std::alloc::{AllocError, Global};
 use std::collections::VecDeque;
 
 /// Names, in order of coming.
 #[derive(Drop)]
-pub(crate) struct Due {
+pub(crate) struct NameList {
     names: VecDeque<WaiterId>,
     // For each slot how many of the names have it.
     counts: Vec<usize>,
+    // Whether the slot of each name is counted, so far as is known.
+    covered: bool,
     ghost counted: { AreCounted names.items counts.items },
+    ghost within: { covered ≡ true → are_within (length counts.items) names.items ≡ true },
 }
 
-impl Due {
+impl NameList {
     /// No names. They take no memory.
     pub(crate) fn new(alloc: Global) -> Self
         ensures { result.names.items ≡ [] }
     {
-        Due {
+        NameList {
             names: VecDeque::new(alloc),
             counts: Vec::new(alloc),
+            covered: true,
         }
     }
 
-    /// Makes room for so many names in all, and counts so many slots, unless names are there.
+    /// Makes room for so many names in all, and counts so many slots, unless a name has one that isn't counted.
     pub(crate) fn reserve(&mut self, count: usize) -> Result<(), AllocError>
         ensures names { self.new.names.items ≡ self.old.names.items }
         ensures more { deque_capacity self.old.names ≤ deque_capacity self.new.names }
         ensures room { OnOk result (count ≤ deque_capacity self.new.names) }
     {
         self.names.reserve(count.saturating_sub(self.names.len()))?;
-        if self.names.is_empty() && self.counts.len() < count {
+        if self.covered && self.counts.len() < count {
             self.counts.resize(count, 0)?;
         }
         Ok(())
+    }
+
+    /// The names.
+    pub(crate) fn names(&self) -> &VecDeque<WaiterId>
+        ensures { result.now.items ≡ self.now.names.items }
+    {
+        &self.names
     }
 
     /// Whether there is a name.
@@ -63,11 +75,22 @@ impl Due {
         true
     }
 
+    /// Whether one name at most has the slot of this one, by its count.
+    fn is_alone(&self, id: WaiterId) -> bool
+        ensures { result ≡ true → in_slot id.0.index self.now.names.items ≤ 1 }
+    {
+        let slot = id.0.index as usize;
+        if slot < self.counts.len() {
+            return self.counts[slot] <= 1;
+        }
+        false
+    }
+
     /// Whether this name is there.
     pub(crate) fn has(&self, id: WaiterId) -> bool
         ensures { result ≡ is_among id self.now.names.items }
     {
-        self.may_have(id) && has(&self.names, id)
+        self.may_have(id) && self.names.iter().any(|other| is_name(other, id))
     }
 
     /// One more name, at the end. The caller must have made room.
@@ -80,6 +103,8 @@ impl Due {
         let slot = id.0.index as usize;
         if slot < self.counts.len() {
             self.counts[slot] += 1;
+        } else {
+            self.covered = false;
         }
     }
 
@@ -105,11 +130,45 @@ impl Due {
         if !self.may_have(id) {
             return;
         }
+        let alone = self.is_alone(id);
         let before = self.names.len();
-        take_out(&mut self.names, id);
+        take_out(&mut self.names, id, alone);
         let slot = id.0.index as usize;
         if slot < self.counts.len() {
             self.counts[slot] -= before - self.names.len();
         }
     }
+}
+
+/// Takes a name out of a list, where it stands there. If it is known to be alone in its slot and stands at an end, the
+/// others aren't looked at.
+fn take_out(list: &mut VecDeque<WaiterId>, id: WaiterId, alone: bool)
+    requires alone { alone ≡ true → in_slot id.0.index list.old.items ≤ 1 }
+    ensures items { list.new.items ≡ without id list.old.items }
+    ensures capacity { deque_capacity list.new ≡ deque_capacity list.old }
+{
+    if alone && is_at_end(list.front(), id) {
+        list.pop_front();
+    } else if alone && is_at_end(list.back(), id) {
+        list.pop_back();
+    } else {
+        list.retain(|other| !is_name(other, id));
+    }
+}
+
+/// Whether there is a name at an end, and it is that one.
+fn is_at_end(name: Option<&WaiterId>, id: WaiterId) -> bool
+    ensures { result ≡ true → IsSome name.entry × IfSome name.entry (λ n. n.now ≡ id) }
+{
+    match name {
+        Some(name) => is_name(name, id),
+        None => false,
+    }
+}
+
+/// Whether a name is that one.
+fn is_name(name: &WaiterId, id: WaiterId) -> bool
+    ensures { result ≡ is_same name.now id }
+{
+    name.0.index == id.0.index && name.0.generation == id.0.generation
 }
