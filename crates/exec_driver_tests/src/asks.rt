@@ -1,5 +1,6 @@
 //! The requests of the tables, and what is found of them.
 
+use crate::found::demand;
 use crate::worker::{buffers, send};
 use exec_base::error::Error;
 use exec_bufs::buf::IoBufMut;
@@ -74,9 +75,7 @@ fn receive(rt: &impl Abort, alloc: Global) -> Request {
 fn read(rt: &impl Abort, alloc: Global) -> Request {
     let bytes = Vec::from_array(alloc, [7u8; 4]).expect(rt, "no memory");
     let buf = IoBufMut::from(bytes);
-    if buf.len() > 4 {
-        panic!(rt; "too long");
-    }
+    demand(rt, buf.len() <= 4, "too long");
     Request::ReadAt(ReadAtRequest::new(0, 0, buf, Cache::Enabled))
 }
 
@@ -87,9 +86,7 @@ fn durable_write(rt: &impl Abort, alloc: Global) -> Request {
 }
 
 fn write(rt: &impl Abort, alloc: Global, at: u64, bytes: &[u8], cache: Cache) -> Request {
-    if at > 100 {
-        panic!(rt; "too far");
-    }
+    demand(rt, at <= 100, "too far");
     let write = buffers(alloc, bytes).expect(rt, "no memory");
     let state = WriteAtState::Writing;
     Request::WriteAt(WriteAtRequest::new(0, at, write, state, cache, 0))

@@ -10,12 +10,14 @@ use crate::found::{
 };
 use crate::steps::{Look, Sign, Step, Turn, Wait};
 use crate::trial::play;
-use crate::worker::{MILLI, Worker, bytes, counts, make_room, name, send};
+use crate::worker::{FIRST, MILLI, NEXT, Worker, bytes, counts, make_room, name, send};
+use exec_base::slab::Id;
 use exec_base::task_no::TaskNo;
 use exec_driver::driver::Enrolled;
 use exec_driver::home::Home;
 use exec_opens::opens::{Opens, WaiterKey};
 use exec_outcomes::outcome::OpResult;
+use exec_outcomes::outcome::OpResult::{Count, Errno};
 use exec_request::window::{Opcode, Window};
 use exec_ring::completion::{CANCEL_USER_DATA, Completion};
 use exec_ring::landing::Unlawful;
@@ -23,86 +25,107 @@ use exec_ring::ring::{Entered, Ring};
 use exec_ring::sim_ring::SimRing;
 use exec_ring::store::Store;
 use exec_waiters::deferred::Deferred;
+use exec_waiters::waiter_id::WaiterId;
 use std::alloc::Global;
 use std::process::Abort;
 
+/// The first request is on the wheel.
+const ENROLLED: Enrolled = Enrolled {
+    id: FIRST,
+    ended: None,
+};
+
+/// The parts of a service one after another.
+const SERVICE: &[Step] = &[
+    Step::Look(Look::RingSize(4)),
+    Step::Wait(Wait::Admit(Ask::Poll(Some(10 * MILLI)), FIRST)),
+    Step::Look(Look::Seen(FIRST, true)),
+    Step::Wait(Wait::SetWaker(FIRST, 4, None)),
+    Step::Wait(Wait::SetWaker(FIRST, 5, Some(TaskNo(4)))),
+    Step::Look(Look::Is(Sign::Enrolments, true)),
+    Step::Look(Look::Is(Sign::MustEnter, true)),
+    Step::Turn(Turn::Advance(0)),
+    Step::Turn(Turn::Enrol(0, Some(ENROLLED))),
+    Step::Look(Look::Is(Sign::Cancels, false)),
+    Step::Look(Look::Is(Sign::MayStage, true)),
+    Step::Look(Look::Is(Sign::NeedsWakePoll, true)),
+    Step::Turn(Turn::StageWakePoll(true)),
+    Step::Look(Look::Is(Sign::NeedsWakePoll, false)),
+    Step::Look(Look::Is(Sign::Full, false)),
+    Step::Turn(Turn::Stage(Some(FIRST))),
+    Step::Look(Look::Is(Sign::Completion, false)),
+    Step::Look(Look::Is(Sign::MustEnter, false)),
+    Step::Turn(Turn::Land(FIRST, Count(1), Ok(()))),
+    Step::Look(Look::Is(Sign::Completion, true)),
+    Step::Turn(Turn::Over(FIRST, Count(1), Ok(()))),
+    Step::Look(Look::Is(Sign::Empty, true)),
+    Step::Look(Look::Is(Sign::Completion, false)),
+    Step::Look(Look::Counts((1, 0, 1, 0, 0))),
+];
+
 #[test]
 fn a_service_step_by_step(rt: HostRuntime) {
-    let id = name(0, 0);
-    let enrolled = Enrolled { id, ended: None };
-    let steps = [
-        Step::Look(Look::RingSize(4)),
-        Step::Wait(Wait::Admit(Ask::Poll(Some(10 * MILLI)), id)),
-        Step::Look(Look::Seen(id, true)),
-        Step::Wait(Wait::SetWaker(id, 4, None)),
-        Step::Wait(Wait::SetWaker(id, 5, Some(TaskNo(4)))),
-        Step::Look(Look::Is(Sign::Enrolments, true)),
-        Step::Look(Look::Is(Sign::MustEnter, true)),
-        Step::Turn(Turn::Advance(0)),
-        Step::Turn(Turn::Enrol(0, Some(enrolled))),
-        Step::Look(Look::Is(Sign::Cancels, false)),
-        Step::Look(Look::Is(Sign::MayStage, true)),
-        Step::Look(Look::Is(Sign::NeedsWakePoll, true)),
-        Step::Turn(Turn::StageWakePoll(true)),
-        Step::Look(Look::Is(Sign::NeedsWakePoll, false)),
-        Step::Look(Look::Is(Sign::Full, false)),
-        Step::Turn(Turn::Stage(Some(id))),
-        Step::Look(Look::Is(Sign::Completion, false)),
-        Step::Look(Look::Is(Sign::MustEnter, false)),
-        Step::Turn(Turn::Land(id, bytes(1), Ok(()))),
-        Step::Look(Look::Is(Sign::Completion, true)),
-        Step::Turn(Turn::Over(id, bytes(1), Ok(()))),
-        Step::Look(Look::Is(Sign::Empty, true)),
-        Step::Look(Look::Is(Sign::Completion, false)),
-        Step::Look(Look::Counts((1, 0, 1, 0, 0))),
-    ];
-    play(&rt, rt.alloc(), 4, &steps);
+    play(&rt, rt.alloc(), 4, SERVICE);
 }
+
+/// A cancel of a send that has its result already.
+const LATE_CANCEL: &[Step] = &[
+    Step::Wait(Wait::Admit(Ask::Send, FIRST)),
+    Step::Turn(Turn::Serve((0, 0, false), false)),
+    Step::Turn(Turn::Land(FIRST, Count(10), Ok(()))),
+    Step::Turn(Turn::Advance(10 * MILLI)),
+    Step::Turn(Turn::Expire(Some(FIRST))),
+    Step::Turn(Turn::StageCancel(Some(FIRST))),
+    Step::Turn(Turn::Enter(Entered::Taken(1))),
+    Step::Turn(Turn::Over(FIRST, Count(10), Ok(()))),
+    Step::Look(Look::Is(Sign::Empty, true)),
+    Step::Look(Look::Is(Sign::Completion, false)),
+    Step::Turn(Turn::Reap(None)),
+    Step::Look(Look::Counts((0, 0, 1, 0, 0))),
+];
 
 #[test]
 fn a_late_cancel_changes_nothing(rt: HostRuntime) {
-    let id = name(0, 0);
-    let steps = [
-        Step::Wait(Wait::Admit(Ask::Send, id)),
-        Step::Turn(Turn::Serve((0, 0, false), false)),
-        Step::Turn(Turn::Land(id, bytes(10), Ok(()))),
-        Step::Turn(Turn::Advance(10 * MILLI)),
-        Step::Turn(Turn::Expire(Some(id))),
-        Step::Turn(Turn::StageCancel(Some(id))),
-        Step::Turn(Turn::Enter(Entered::Taken(1))),
-        Step::Turn(Turn::Over(id, bytes(10), Ok(()))),
-        Step::Look(Look::Is(Sign::Empty, true)),
-        Step::Look(Look::Is(Sign::Completion, false)),
-        Step::Turn(Turn::Reap(None)),
-        Step::Look(Look::Counts((0, 0, 1, 0, 0))),
-    ];
-    play(&rt, rt.alloc(), 4, &steps);
+    play(&rt, rt.alloc(), 4, LATE_CANCEL);
 }
+
+/// The third request that has the first slot.
+const LATEST: WaiterId = WaiterId(Id {
+    index: 0,
+    generation: 2,
+});
+
+/// A request of a late generation.
+const FAR_OFF: WaiterId = WaiterId(Id {
+    index: 7,
+    generation: (1 << 32) + 3,
+});
+
+/// Calls on names of which nothing is there any more.
+const GONE: &[Step] = &[
+    Step::Wait(Wait::Admit(Ask::Send, FIRST)),
+    Step::Wait(Wait::Orphan(FIRST)),
+    Step::Wait(Wait::Admit(Ask::Send, NEXT)),
+    Step::Wait(Wait::Orphan(NEXT)),
+    Step::Look(Look::Len(0)),
+    Step::Look(Look::Counts((0, 2, 2, 0, 0))),
+    Step::Wait(Wait::Admit(Ask::Send, LATEST)),
+    Step::Turn(Turn::Serve((0, 0, false), false)),
+    Step::Turn(Turn::Land(FIRST, Count(10), Err(Unlawful(0, Count(10))))),
+    Step::Wait(Wait::Orphan(FIRST)),
+    Step::Wait(Wait::Forward(FIRST, 9)),
+    Step::Look(Look::Refused(1)),
+    Step::Look(Look::Seen(FIRST, false)),
+    Step::Look(Look::Len(1)),
+    Step::Look(Look::Counts((0, 2, 2, 0, 1))),
+    Step::Turn(Turn::Land(LATEST, Errno(104), Ok(()))),
+    // this row is the worked example that was asked for
+    Step::Look(Look::UserData(FAR_OFF, (3 << 32) + 7)),
+];
 
 #[test]
 fn what_is_gone_stays_gone(rt: HostRuntime) {
-    let (old, next, new) = (name(0, 0), name(0, 1), name(0, 2));
-    let steps = [
-        Step::Wait(Wait::Admit(Ask::Send, old)),
-        Step::Wait(Wait::Orphan(old)),
-        Step::Wait(Wait::Admit(Ask::Send, next)),
-        Step::Wait(Wait::Orphan(next)),
-        Step::Look(Look::Len(0)),
-        Step::Look(Look::Counts((0, 2, 2, 0, 0))),
-        Step::Wait(Wait::Admit(Ask::Send, new)),
-        Step::Turn(Turn::Serve((0, 0, false), false)),
-        Step::Turn(Turn::Land(old, bytes(10), Err(Unlawful(0, bytes(10))))),
-        Step::Wait(Wait::Orphan(old)),
-        Step::Wait(Wait::Forward(old, 9)),
-        Step::Look(Look::Refused(1)),
-        Step::Look(Look::Seen(old, false)),
-        Step::Look(Look::Len(1)),
-        Step::Look(Look::Counts((0, 2, 2, 0, 1))),
-        Step::Turn(Turn::Land(new, OpResult::Errno(104), Ok(()))),
-        // this row is the worked example that was asked for
-        Step::Look(Look::UserData(name(7, (1 << 32) + 3), (3 << 32) + 7)),
-    ];
-    play(&rt, rt.alloc(), 4, &steps);
+    play(&rt, rt.alloc(), 4, GONE);
 }
 
 #[test]
@@ -120,6 +143,8 @@ fn a_home_is_new(rt: HostRuntime) {
     same_count(&rt, 1, home.driver.len(), 0);
     holds(&rt, 2, !home.closing);
     holds(&rt, 3, home.deferred.is_empty());
+    drop(home);
+    drop(store);
 }
 
 #[test]
@@ -131,6 +156,7 @@ fn opens_have_records(rt: HostRuntime) {
     holds(&rt, 1, account.is_some());
     holds(&rt, 2, opens.account(Some(2)).is_none());
     opens.set_account(Some(0), account);
+    drop(opens);
 }
 
 /// Open 1 gets a place for one more, who may then join its line.
@@ -168,6 +194,7 @@ fn opens_have_gates(rt: HostRuntime) {
     same_key(&rt, 2, opens.leave(1), None);
     same_key(&rt, 3, opens.holder(1), None);
     same_key(&rt, 4, opens.holder(2), None);
+    drop(opens);
 }
 
 #[test]
@@ -177,7 +204,7 @@ fn completions_say_what_they_are(rt: HostRuntime) {
         result: -5,
         more: true,
     };
-    same(&rt, 0, &failed.given(), &OpResult::Errno(5));
+    same(&rt, 0, &failed.given(), &Errno(5));
     holds(&rt, 1, !failed.is_wake());
     same(&rt, 2, &Completion::wake(false).given(), &bytes(1));
     holds(&rt, 3, Completion::wake(false).is_wake());
@@ -197,6 +224,8 @@ fn a_look_leaves_a_completion_there(rt: HostRuntime) {
     same(&rt, 2, &ring.peek(), &taken_in);
     same(&rt, 3, &ring.reap(), &taken_in);
     same(&rt, 4, &ring.peek(), &None);
+    drop(ring);
+    drop(store);
 }
 
 #[test]
@@ -214,6 +243,7 @@ fn a_store_has_the_room_that_was_made(rt: HostRuntime) {
     demand(&rt, store.reserve(alloc, window).is_ok(), "no memory");
     holds(&rt, 2, store.has_room(window, 10));
     holds(&rt, 3, !store.has_room(window, 11));
+    drop(store);
 }
 
 #[test]
@@ -222,6 +252,7 @@ fn a_task_is_to_be_woken(rt: HostRuntime) {
     make_room(&rt, rt.alloc(), &mut told, 1);
     told.wake(Some(TaskNo(4)));
     same_counts(&rt, 0, counts(&told), (1, 0, 0, 0, 0));
+    drop(told);
 }
 
 /// Nothing is there of an admission that was refused.
@@ -263,10 +294,16 @@ fn a_refused_admission_leaves_nothing(rt: HostRuntime) {
     let alloc = rt.alloc();
     let mut store = Store::new(alloc);
     let Ok(mut opens) = Opens::new(alloc, 1) else {
+        drop(store);
         return;
     };
     let Some(mut ours) = Worker::new(alloc, 4, &mut store) else {
+        drop(opens);
+        drop(store);
         return;
     };
     admit_again(&rt, alloc, &mut ours, &mut opens, &mut store);
+    drop(ours);
+    drop(opens);
+    drop(store);
 }

@@ -124,7 +124,9 @@ impl Model for Requests {
 /// Plays these steps on fresh requests.
 pub fn play(rt: &impl Abort, alloc: Global, calls: &[Call]) {
     let waiters = Waiters::new(alloc, 4).expect(rt, "no memory");
-    Requests::new(alloc, waiters).play(rt, alloc, calls);
+    let mut requests = Requests::new(alloc, waiters);
+    requests.play(rt, alloc, calls);
+    drop(requests);
 }
 
 impl Requests {
@@ -168,17 +170,21 @@ impl Requests {
 
     fn admit(&mut self, alloc: Global, sender: Option<u32>) -> Option<WaiterId> {
         match sender {
-            None => {
-                let request = Request::Poll(PollRequest::new(4, Some(10)));
-                let observer = Observer::Local(None);
-                self.waiters.insert(alloc, request, observer).ok()
-            }
-            Some(sender) => {
-                let request = Request::Sync(SyncRequest::new(1, 0));
-                let observer = Observer::DetachedSync(sender);
-                self.waiters.insert(alloc, request, observer).ok()
-            }
+            None => self.admit_poll(alloc),
+            Some(sender) => self.admit_sync(alloc, sender),
         }
+    }
+
+    fn admit_poll(&mut self, alloc: Global) -> Option<WaiterId> {
+        let request = Request::Poll(PollRequest::new(4, Some(10)));
+        let observer = Observer::Local(None);
+        self.waiters.insert(alloc, request, observer).ok()
+    }
+
+    fn admit_sync(&mut self, alloc: Global, sender: u32) -> Option<WaiterId> {
+        let request = Request::Sync(SyncRequest::new(1, 0));
+        let observer = Observer::DetachedSync(sender);
+        self.waiters.insert(alloc, request, observer).ok()
     }
 
     fn stage(&mut self, rt: &impl Abort, id: WaiterId) -> u64 {
@@ -260,6 +266,7 @@ impl Requests {
         demand(rt, self.waiters.may_be_seen(id), "it may not be seen");
         let seen = self.waiters.observe(id, TaskNo(task));
         holds(rt, at, is_found(&seen, found));
+        drop(seen);
     }
 
     fn set_waker(&mut self, rt: &impl Abort, id: WaiterId, task: u32) -> Option<TaskNo> {

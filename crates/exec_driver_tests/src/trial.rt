@@ -1,8 +1,8 @@
 //! What plays a table of steps: two workers that share an open and a store.
 
-use crate::asks::{Ask, is_seen, request};
+use crate::asks::{Ask, Seen, is_seen, request};
 use crate::found::{
-    holds, same, same_answer, same_bytes, same_count, same_counts, same_key, same_moment,
+    demand, holds, same, same_answer, same_bytes, same_count, same_counts, same_key, same_moment,
     same_name, same_number, same_reaped,
 };
 use crate::steps::{Lent, Look, Sign, Step, Turn, Wait};
@@ -32,7 +32,9 @@ pub struct Trial {
 
 /// Plays these steps on fresh workers over rings of so many entries. It fails where memory is wanting.
 pub fn play(rt: &impl Abort, alloc: Global, size: usize, steps: &[Step]) {
-    Trial::new(rt, alloc, size).play(rt, alloc, steps);
+    let mut trial = Trial::new(rt, alloc, size);
+    trial.play(rt, alloc, steps);
+    drop(trial);
 }
 
 impl Trial {
@@ -71,17 +73,11 @@ impl Trial {
         let (ours, opens) = (&mut self.ours, &mut self.opens);
         match wait {
             Wait::Admit(ask, id) => {
-                let request = request(rt, alloc, ask);
-                same_name(
-                    rt,
-                    at,
-                    ours.admit(alloc, request, opens, &mut self.store),
-                    Some(id),
-                );
+                same_name(rt, at, self.admit(rt, alloc, ask), Some(id));
             }
             Wait::Join(worker, id) => ours.join(rt, worker, id, opens),
             Wait::Observe(id, task, seen) => {
-                holds(rt, at, is_seen(&ours.observe(rt, id, task), seen));
+                holds(rt, at, sees(rt, ours, id, task, seen));
             }
             Wait::SetWaker(id, task, before) => {
                 same(rt, at, &ours.set_waker(rt, id, task), &before);
@@ -91,6 +87,12 @@ impl Trial {
             Wait::Close(id) => same_name(rt, at, ours.close(rt, alloc), id),
             Wait::LetGo(socket, address) => let_go(rt, at, ours, socket, address),
         }
+    }
+
+    fn admit(&mut self, rt: &impl Abort, alloc: Global, ask: Ask) -> Option<WaiterId> {
+        let request = request(rt, alloc, ask);
+        self.ours
+            .admit(alloc, request, &mut self.opens, &mut self.store)
     }
 
     fn turn(&mut self, rt: &impl Abort, alloc: Global, at: usize, turn: Turn) {
@@ -197,6 +199,14 @@ impl Trial {
     }
 }
 
+/// Whether a task finds this.
+fn sees(rt: &impl Abort, ours: &mut Worker, id: WaiterId, task: u32, seen: Seen) -> bool {
+    let found = ours.observe(rt, id, task);
+    let is = is_seen(&found, seen);
+    drop(found);
+    is
+}
+
 /// An operation ended a request so, which gives up no permit.
 fn over(id: WaiterId, given: OpResult, ended: Result<(), Error>) -> Reaped {
     Reaped {
@@ -224,20 +234,25 @@ fn poison(rt: &impl Abort, opens: &mut Opens, file: u32, error: Error) {
 }
 
 fn feed(rt: &impl Abort, alloc: Global, store: &mut Store, socket: u32, bytes: &[u8]) {
-    if store.feed(alloc, socket, bytes).is_err() {
-        panic!(rt; "no memory");
-    }
+    let fed = store.feed(alloc, socket, bytes);
+    demand(rt, fed.is_ok(), "no memory");
 }
 
 fn byte_of(rt: &impl Abort, store: &Store, file: u32, place: u64) -> u8 {
     store.file(file).expect(rt, "no file").byte_at(place)
 }
 
+/// The socket and the address of a connect.
+fn connect_of(resources: &RetiredResources) -> Option<(u32, SockAddr)> {
+    match resources {
+        RetiredResources::Connect { fd, address } => Some((*fd, *address)),
+        _ => None,
+    }
+}
+
 /// What a connect owned that was let go last is this.
 fn let_go(rt: &impl Abort, at: usize, ours: &mut Worker, socket: u32, to: SockAddr) {
     let retired = ours.take_resources().expect(rt, "nothing let go");
-    match retired.resources {
-        RetiredResources::Connect { fd, address } => same(rt, at, &(fd, address), &(socket, to)),
-        _ => panic!(rt; "no connect"),
-    }
+    same(rt, at, &connect_of(&retired.resources), &Some((socket, to)));
+    drop(retired);
 }

@@ -54,6 +54,30 @@ pub fn name(index: u32, generation: u64) -> WaiterId {
     WaiterId(Id { index, generation })
 }
 
+/// The request that comes first.
+pub const FIRST: WaiterId = WaiterId(Id {
+    index: 0,
+    generation: 0,
+});
+
+/// The one that comes second, beside the first.
+pub const SECOND: WaiterId = WaiterId(Id {
+    index: 1,
+    generation: 0,
+});
+
+/// The one that comes third, beside both.
+pub const THIRD: WaiterId = WaiterId(Id {
+    index: 2,
+    generation: 0,
+});
+
+/// The one that takes the slot of the first after it.
+pub const NEXT: WaiterId = WaiterId(Id {
+    index: 0,
+    generation: 1,
+});
+
 /// The result of an operation that moved so many bytes.
 pub fn bytes(count: u64) -> OpResult {
     OpResult::Count(count)
@@ -64,13 +88,17 @@ pub fn buffers(alloc: Global, data: &[u8]) -> Result<WriteBuffers, AllocError>
     ensures sound { IfOk result (λ w. is_sound w ≡ true) }
     ensures short { IfOk result (λ w. length_of w - moved_of w ≤ 2 ^ 40) }
 {
-    let mut bufs = IoBufs::new(alloc);
     let copy = data.to_vec(alloc)?;
-    if copy.len() <= 1 << 40 {
-        bufs.push(alloc, IoBuf::from(copy))?;
+    let mut bufs = IoBufs::new(alloc);
+    if copy.len() > 1 << 40 {
+        drop(copy);
+    } else if bufs.push(alloc, IoBuf::from(copy)).is_err() {
+        drop(bufs);
+        return Err(AllocError);
     }
     let write = WriteBuffers::from(bufs);
     if write.remaining_len() > 1 << 40 {
+        drop(write);
         return Err(AllocError);
     }
     Ok(write)
@@ -97,9 +125,8 @@ pub fn counts(told: &Deferred<u32, u32>) -> Counts {
 pub fn make_room(rt: &impl Abort, alloc: Global, told: &mut Deferred<u32, u32>, n: usize)
     ensures { HasPlaces told.new n }
 {
-    if told.reserve(alloc, n).is_err() {
-        panic!(rt; "no memory");
-    }
+    let made = told.reserve(alloc, n);
+    demand(rt, made.is_ok(), "no memory");
 }
 
 /// A driver with its deferred work and its signals. Its deadlines are always punctual.
@@ -125,8 +152,8 @@ impl Worker {
     /// A worker over a ring of so many entries, with a wheel of 5 ms for 10 ms. None where memory is wanting, or where
     /// there is no such ring.
     pub fn new(alloc: Global, size: usize, store: &mut Store) -> Option<Self> {
-        let ring = SimRing::new(alloc, size).ok()?;
         TimeoutWheel::validate_layout(10 * MILLI, 5 * MILLI).ok()?;
+        let ring = SimRing::new(alloc, size).ok()?;
         let driver = Driver::new(alloc, ring, 10 * MILLI, 5 * MILLI, 0, store).ok()?;
         Some(Worker {
             driver,
@@ -206,7 +233,7 @@ impl Worker {
         let ends = ends.expect(rt, "too many requests");
         make_room(rt, alloc, &mut self.deferred, ends);
         refuse(rt, self.driver.has_due(), "something is due");
-        assert!(rt; self.driver.ring_size() > 0);
+        demand(rt, self.driver.ring_size() > 0, "the ring has no entry");
         let (told, last) = (&mut self.deferred, &mut self.last);
         self.driver.service(worker, now, defer, opens, told, last)
     }
@@ -331,7 +358,7 @@ impl Worker {
     pub fn park(&mut self, rt: &impl Abort, calm: bool) -> bool {
         let mut word = Word::new(calm);
         let waits = self.driver.park(0, &mut word);
-        assert!(rt; word.armed == waits);
+        demand(rt, word.armed == waits, "its word says otherwise");
         if waits {
             word.disarm();
         }

@@ -4,7 +4,7 @@
 //! place, and that none is in two, is for the driver to know; here are the lists alone, with room for as many requests
 //! as `reserve` was told, so no other call takes memory.
 
-ghost use Rattle.std.specs.Prelude.{◌≡◌, ◌<◌, ◌≤◌, true, false, length, max, if◌then◌else◌, OnOk, OnErr};
+ghost use Rattle.std.specs.Prelude.{◌≡◌, ◌<◌, ◌≤◌, false, length, max, if◌then◌else◌, OnOk, OnErr};
 ghost use Rattle.std.specs.VecDeque.{deque_capacity};
 ghost use Rattle.exec_lists.specs.Lists.{no_lists, without, is_among, has_first, first_of, withdrawn, with_queued, with_gated, with_enrolment, with_due, with_cancel, without_gated, after_queued, after_enrolment, after_due, after_cancel};
 
@@ -191,19 +191,13 @@ impl Lists {
         }
     }
 
-    /// A cancel is to be staged. The caller must have made room, and know of one whose deadline was told that it is
-    /// none of those any more whose deadline has come: then these needn't be looked at.
-    pub fn cancel(&mut self, id: WaiterId, told: bool)
+    /// A cancel is to be staged, of one whose deadline needn't be told any more. The caller must have made room.
+    pub fn cancel(&mut self, id: WaiterId)
         requires room { length self.old.cancels < self.old.room }
-        requires late { told ≡ true → is_among id self.old.due ≡ false }
         ensures { self.new ≡ with_cancel id self.old }
     {
-        if told {
-            self.cancels.push(id);
-        } else {
-            self.due.take_out(id);
-            self.cancels.push(id);
-        }
+        self.due.take_out(id);
+        self.cancels.push(id);
     }
 
     /// Takes out what is to be staged first.

@@ -3,7 +3,7 @@
 ghost use Rattle.std.specs.Prelude.{◌≡◌, []};
 ghost use Rattle.exec_live_queue.specs.Kinds.{IsThief, handed};
 
-use crate::calls::{let_go, made, pop_all, push_all};
+use crate::calls::{let_go, let_queues_go, made, must_make, pop_all, push_all};
 use crate::found::same;
 use exec_live_queue::owner::Owner;
 use exec_live_queue::queue::{Queue, QueueSeat};
@@ -116,10 +116,7 @@ fn each_has_its_half(rt: &impl Abort, mut owner: Owner<u64>, mut into: Owner<u64
 #[test]
 fn the_owner_goes_on_beside_a_claim(rt: HostRuntime) -> Result<(), Fail> {
     let (queue, mut owner, seat) = made(rt.alloc(), 0)?;
-    let (_other, into, _seat) = match made(rt.alloc(), 0) {
-        Ok(made) => made,
-        Err(_) => panic!(rt; "no memory"),
-    };
+    let (other, into, its_seat) = must_make(&rt, rt.alloc(), 0);
     same!(&rt; push_all(&mut owner, 0, 16), 16);
     let flags = Flags::new();
     let mut owning = Owning {
@@ -139,9 +136,10 @@ fn the_owner_goes_on_beside_a_claim(rt: HostRuntime) -> Result<(), Fail> {
     let Stealing {
         queue: _,
         flags: _,
-        seat: _,
+        seat,
         into,
     } = stealing;
     each_has_its_half(&rt, owner, into);
+    let_queues_go(queue, seat, other, its_seat);
     Ok(())
 }

@@ -24,8 +24,27 @@ pub fn made(
 {
     let (queue, mut first) = Queue::at(alloc, start)?;
     let thief = queue.seat(&mut first);
-    let owner = queue.owner(first)?;
+    let Ok(owner) = queue.owner(first) else {
+        drop(thief);
+        drop(queue);
+        return Err(AllocError);
+    };
     Ok((queue, owner, thief))
+}
+
+/// The same. It fails where memory is wanting.
+pub fn must_make(
+    rt: &impl Abort,
+    alloc: Global,
+    start: u64,
+) -> (Queue<u64>, Owner<u64>, QueueSeat<u64>)
+    requires { start + 512 ≤ 2 ^ 55 }
+    ensures { (handed result.1 ≡ []) × IsThief result.0 result.2 }
+{
+    match made(alloc, start) {
+        Ok(made) => made,
+        Err(_) => panic!(rt; "no memory"),
+    }
 }
 
 /// The owner of an exclusive queue.
@@ -33,7 +52,9 @@ fn alone(alloc: Global) -> Result<Owner<u64>, AllocError>
     ensures { IfOk result (λ o. handed o ≡ []) }
 {
     let (queue, first) = Queue::exclusive(alloc);
-    queue.owner(first)
+    let owner = queue.owner(first);
+    drop(queue);
+    owner
 }
 
 /// Pushes the values from `from` on, and answers how many were published.
@@ -105,6 +126,19 @@ pub fn let_go(rt: &impl Abort, mut owner: Owner<u64>)
     }
 }
 
+/// Lets two queues go, each with a seat.
+pub fn let_queues_go(
+    queue: Queue<u64>,
+    thief: QueueSeat<u64>,
+    other: Queue<u64>,
+    seat: QueueSeat<u64>,
+) {
+    drop(seat);
+    drop(other);
+    drop(thief);
+    drop(queue);
+}
+
 /// Three values go in and come out in order.
 fn three_in_order(rt: &impl Abort, mut owner: Owner<u64>)
     requires { handed owner ≡ [] }
@@ -136,13 +170,10 @@ fn half_of_257_stay(rt: &impl Abort, mut owner: Owner<u64>)
 }
 
 /// A batch goes in behind the other values.
-fn a_batch_goes_in(rt: &impl Abort, mut owner: Owner<u64>, alloc: Global) -> Result<(), Fail>
+fn a_batch_goes_in(rt: &impl Abort, mut owner: Owner<u64>, alloc: Global)
     requires { handed owner ≡ [] }
 {
-    let mut batch = match batch_of_three(alloc) {
-        Ok(batch) => batch,
-        Err(_) => panic!(rt; "no memory"),
-    };
+    let mut batch = batch_of_three(rt, alloc);
     same!(rt; push_all(&mut owner, 10, 1), 1);
     if batch.len() > owner.room() {
         panic!(rt; "no room");
@@ -150,57 +181,66 @@ fn a_batch_goes_in(rt: &impl Abort, mut owner: Owner<u64>, alloc: Global) -> Res
     owner.push_batch(&mut batch);
     same!(rt; (batch.len(), owner.len()), (0, 4));
     same!(rt; (owner.pop(), owner.pop(), owner.pop(), owner.pop()), (Some(10), Some(7), Some(8), Some(9)));
+    drop(batch);
     let_go(rt, owner);
-    Ok(())
 }
 
-fn batch_of_three(alloc: Global) -> Result<Reserved<u64>, AllocError> {
-    let mut batch = Reserved::with_places(alloc, 3)?;
+fn batch_of_three(rt: &impl Abort, alloc: Global) -> Reserved<u64> {
+    let mut batch = match Reserved::with_places(alloc, 3) {
+        Ok(batch) => batch,
+        Err(_) => panic!(rt; "no memory"),
+    };
     batch.push(7);
     batch.push(8);
     batch.push(9);
-    Ok(batch)
+    batch
 }
 
 #[test]
 fn values_leave_in_order(rt: HostRuntime) -> Result<(), Fail> {
-    let (_queue, owner, _thief) = made(rt.alloc(), 0)?;
+    let (queue, owner, thief) = made(rt.alloc(), 0)?;
     three_in_order(&rt, owner);
+    drop(thief);
+    drop(queue);
     three_in_order(&rt, alone(rt.alloc())?);
     Ok(())
 }
 
 #[test]
 fn a_full_queue_hands_out_its_newest_half(rt: HostRuntime) -> Result<(), Fail> {
-    let (_queue, owner, _thief) = made(rt.alloc(), 0)?;
+    let (queue, owner, thief) = made(rt.alloc(), 0)?;
     half_of_257_stay(&rt, owner);
+    drop(thief);
+    drop(queue);
     half_of_257_stay(&rt, alone(rt.alloc())?);
     Ok(())
 }
 
 #[test]
 fn a_batch_comes_out_in_order(rt: HostRuntime) -> Result<(), Fail> {
-    let (_queue, owner, _thief) = made(rt.alloc(), 0)?;
-    a_batch_goes_in(&rt, owner, rt.alloc())?;
-    a_batch_goes_in(&rt, alone(rt.alloc())?, rt.alloc())
+    let (queue, owner, thief) = made(rt.alloc(), 0)?;
+    a_batch_goes_in(&rt, owner, rt.alloc());
+    drop(thief);
+    drop(queue);
+    a_batch_goes_in(&rt, alone(rt.alloc())?, rt.alloc());
+    Ok(())
 }
 
 #[test]
 fn a_spent_queue_takes_no_more(rt: HostRuntime) -> Result<(), Fail> {
-    let (_queue, mut owner, _thief) = made(rt.alloc(), (1 << 55) - 512)?;
+    let (queue, mut owner, thief) = made(rt.alloc(), (1 << 55) - 512)?;
     same!(&rt; push(&mut owner, 7), Some(Settled::Spent(7)));
     same!(&rt; (owner.room(), owner.len()), (0, 0));
     let_go(&rt, owner);
+    drop(thief);
+    drop(queue);
     Ok(())
 }
 
 #[test]
 fn a_thief_takes_the_oldest_half(rt: HostRuntime) -> Result<(), Fail> {
     let (queue, mut owner, mut thief) = made(rt.alloc(), 0)?;
-    let (_other, mut into, _seat) = match made(rt.alloc(), 0) {
-        Ok(made) => made,
-        Err(_) => panic!(rt; "no memory"),
-    };
+    let (other, mut into, seat) = must_make(&rt, rt.alloc(), 0);
     holds!(&rt; !queue.is_stealable(&mut thief));
     same!(&rt; push_all(&mut owner, 0, 5), 5);
     holds!(&rt; queue.is_stealable(&mut thief));
@@ -211,16 +251,14 @@ fn a_thief_takes_the_oldest_half(rt: HostRuntime) -> Result<(), Fail> {
     same!(&rt; owner.pop(), Some(4));
     let_go(&rt, owner);
     let_go(&rt, into);
+    let_queues_go(queue, thief, other, seat);
     Ok(())
 }
 
 #[test]
 fn a_queue_before_its_end_takes_one_more(rt: HostRuntime) -> Result<(), Fail> {
     let (queue, mut owner, mut thief) = made(rt.alloc(), 0)?;
-    let (_last, mut last, _seat) = match made(rt.alloc(), (1 << 55) - 513) {
-        Ok(made) => made,
-        Err(_) => panic!(rt; "no memory"),
-    };
+    let (other, mut last, seat) = must_make(&rt, rt.alloc(), (1 << 55) - 513);
     same!(&rt; push(&mut last, 7), Some(Settled::Pushed(1)));
     same!(&rt; push(&mut last, 8), Some(Settled::Spent(8)));
     same!(&rt; (last.room(), last.len()), (0, 1));
@@ -230,16 +268,14 @@ fn a_queue_before_its_end_takes_one_more(rt: HostRuntime) -> Result<(), Fail> {
     same!(&rt; (owner.pop(), pop_all(&mut owner, 3)), (Some(0), Some(3)));
     let_go(&rt, owner);
     let_go(&rt, last);
+    let_queues_go(queue, thief, other, seat);
     Ok(())
 }
 
 #[test]
 fn a_thief_needs_128_places_free(rt: HostRuntime) -> Result<(), Fail> {
     let (queue, mut owner, mut thief) = made(rt.alloc(), 0)?;
-    let (_other, mut into, _seat) = match made(rt.alloc(), 0) {
-        Ok(made) => made,
-        Err(_) => panic!(rt; "no memory"),
-    };
+    let (other, mut into, seat) = must_make(&rt, rt.alloc(), 0);
     same!(&rt; push_all(&mut owner, 1000, 4), 4);
     same!(&rt; push_all(&mut into, 0, 129), 129);
     same!(&rt; queue.steal_once(&mut thief, &mut into), Steal::Nothing);
@@ -250,6 +286,7 @@ fn a_thief_needs_128_places_free(rt: HostRuntime) -> Result<(), Fail> {
     same!(&rt; (pop_all(&mut into, 128), into.pop(), into.pop()), (Some(128), Some(1000), Some(1001)));
     let_go(&rt, owner);
     let_go(&rt, into);
+    let_queues_go(queue, thief, other, seat);
     Ok(())
 }
 

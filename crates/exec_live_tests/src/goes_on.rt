@@ -3,7 +3,7 @@
 ghost use Rattle.std.specs.Prelude.{◌≡◌, []};
 ghost use Rattle.exec_live_queue.specs.Kinds.{handed};
 
-use crate::calls::{let_go, made, pop_all, push, push_all};
+use crate::calls::{let_go, let_queues_go, made, must_make, pop_all, push, push_all};
 use crate::found::same;
 use exec_live_queue::lent::Settled;
 use exec_live_queue::owner::Owner;
@@ -66,10 +66,7 @@ impl Pause for GoesOn {
 #[test]
 fn the_owner_pops_and_pushes_beside_a_claim(rt: HostRuntime) -> Result<(), Fail> {
     let (queue, mut owner, mut thief) = made(rt.alloc(), 0)?;
-    let (_other, mut into, _seat) = match made(rt.alloc(), 0) {
-        Ok(made) => made,
-        Err(_) => panic!(rt; "no memory"),
-    };
+    let (other, mut into, seat) = must_make(&rt, rt.alloc(), 0);
     same!(&rt; push_all(&mut owner, 0, 8), 8);
     let mut pause = GoesOn::with(owner, 3);
     let moved = queue.steal_paused(&mut thief, &mut into, &mut pause);
@@ -92,16 +89,14 @@ fn the_owner_pops_and_pushes_beside_a_claim(rt: HostRuntime) -> Result<(), Fail>
     same!(&rt; (owner.pop(), owner.pop(), owner.pop()), (Some(7), Some(1000), Some(1001)));
     let_go(&rt, owner);
     let_go(&rt, into);
+    let_queues_go(queue, thief, other, seat);
     Ok(())
 }
 
 #[test]
 fn a_full_queue_beside_a_claim_takes_nothing(rt: HostRuntime) -> Result<(), Fail> {
     let (queue, mut owner, mut thief) = made(rt.alloc(), 0)?;
-    let (_other, mut into, _seat) = match made(rt.alloc(), 0) {
-        Ok(made) => made,
-        Err(_) => panic!(rt; "no memory"),
-    };
+    let (other, mut into, seat) = must_make(&rt, rt.alloc(), 0);
     same!(&rt; push_all(&mut owner, 0, 256), 256);
     let mut pause = GoesOn::with(owner, 0);
     let moved = queue.steal_paused(&mut thief, &mut into, &mut pause);
@@ -123,5 +118,6 @@ fn a_full_queue_beside_a_claim_takes_nothing(rt: HostRuntime) -> Result<(), Fail
     same!(&rt; (into.pop(), pop_all(&mut into, 127)), (Some(0), Some(127)));
     let_go(&rt, owner);
     let_go(&rt, into);
+    let_queues_go(queue, thief, other, seat);
     Ok(())
 }

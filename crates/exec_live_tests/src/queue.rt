@@ -54,10 +54,7 @@ impl<'a> Owning<'a> {
     /// Pushes all values and pops what is left. What flows over is taken too.
     fn run(self, rt: &impl Abort) -> Tally {
         let Owning { queue, first } = self;
-        let mut owner = match queue.owner(first) {
-            Ok(owner) => owner,
-            Err(_) => panic!(rt; "no memory"),
-        };
+        let mut owner = must_own(rt, queue, first);
         let mut tally = Tally::none();
         for value in 0..VALUES {
             match owner.push(value) {
@@ -87,21 +84,39 @@ impl<'a> Stealing<'a> {
     /// Steals again and again into a queue of its own, and pops what it stole.
     fn run(self, rt: &impl Abort, alloc: Global) -> Tally {
         let Stealing { queue, mut seat } = self;
-        let (own, first) = match Queue::shared(alloc) {
-            Ok(made) => made,
-            Err(_) => panic!(rt; "no memory"),
-        };
-        let mut owner = match own.owner(first) {
-            Ok(owner) => owner,
-            Err(_) => panic!(rt; "no memory"),
-        };
+        let (own, first) = must_share(rt, alloc);
+        let mut owner = must_own(rt, &own, first);
         let mut tally = Tally::none();
         for _ in 0..VALUES {
             if let Steal::Moved(count) = queue.steal_once(&mut seat, &mut owner) {
                 pop_some(&mut owner, count, &mut tally);
             }
         }
-        end(rt, owner, tally)
+        let tally = end(rt, owner, tally);
+        drop(own);
+        drop(seat);
+        tally
+    }
+}
+
+/// A shared queue with its first seat. It fails where memory is wanting.
+fn must_share(rt: &impl Abort, alloc: Global) -> (Queue<u64>, QueueSeat<u64>)
+    ensures { result.1 ≡ first_of result.0 }
+{
+    match Queue::shared(alloc) {
+        Ok(made) => made,
+        Err(_) => panic!(rt; "no memory"),
+    }
+}
+
+/// The owner of a queue. It fails where memory is wanting.
+fn must_own(rt: &impl Abort, queue: &Queue<u64>, first: QueueSeat<u64>) -> Owner<u64>
+    requires { first ≡ first_of queue.now }
+    ensures { handed result ≡ [] }
+{
+    match queue.owner(first) {
+        Ok(owner) => owner,
+        Err(_) => panic!(rt; "no memory"),
     }
 }
 
@@ -169,5 +184,6 @@ fn each_value_leaves_once(rt: HostRuntime) -> Result<(), Fail> {
     );
     let all = zero.with(one).with(two).with(three);
     same!(&rt; (all.values, all.sum), (100_000, 4_999_950_000));
+    drop(queue);
     Ok(())
 }

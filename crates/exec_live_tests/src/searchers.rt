@@ -5,7 +5,7 @@ ghost use Rattle.std.specs.Prelude.{◌≡◌, ◌<◌, ◌+◌, ◌≤◌, [], 
 ghost use Rattle.exec_live_idle.specs.{Idle.{knows, IsSeatOf, IsSame}, Live.next_number};
 ghost use Rattle.exec_live_queue.specs.Kinds.{IsThief, handed};
 
-use crate::calls::{let_go, made, push_all};
+use crate::calls::{let_go, must_make, push_all};
 use crate::found::{holds, same};
 use exec_live_idle::backlog::Backlog;
 use exec_live_idle::notify::Rouse;
@@ -154,10 +154,12 @@ impl<'a> Worker<'a> {
         drop(searcher.into_seat());
         let Reach {
             own,
-            lower: _,
-            higher: _,
+            lower,
+            higher,
             dry: _,
         } = reach;
+        drop(higher);
+        drop(lower);
         let_go(rt, own);
     }
 }
@@ -173,10 +175,7 @@ fn make_queue<R: Abort>(
     ensures one { IsThief result.0 result.2 }
     ensures two { IsThief result.0 result.3 }
 {
-    let (queue, mut owner, mut one) = match made(alloc, 0) {
-        Ok(made) => made,
-        Err(_) => panic!(rt; "no memory"),
-    };
+    let (queue, mut owner, mut one) = must_make(rt, alloc, 0);
     push_all(&mut owner, 0, count);
     let two = queue.seat(&mut one);
     (queue, owner, one, two)
@@ -248,6 +247,10 @@ fn three_workers_share_five_values(rt: HostRuntime) -> Result<(), Fail> {
     zero.end(&rt);
     one.end(&rt);
     two.end(&rt);
+    drop(at_two);
+    drop(at_one);
+    drop(at_zero);
     drop(caller.leave());
+    drop(idle);
     Ok(())
 }

@@ -5,5 +5,4 @@ pub mod Newborn
 pub mod MailLets
 pub mod MailHeld
 pub mod LeafPowers
-pub mod LeafFresh
 pub mod Mailboxes

@@ -106,12 +106,16 @@ fn admit<B: Scripted + Drop>(
     ensures admitted { IfOk result (λ id. TakesIn task request id worker.old worker.new shared.old shared.new) }
     ensures kept { OnErr result (MakesRoom task (λ slot. slot.told) worker.old worker.new shared.old shared.new) }
 {
-    make_room(worker, alloc, task, shared)?;
+    let Ok(()) = make_room(worker, alloc, task, shared) else {
+        drop(request);
+        return Err(AllocError);
+    };
     if !has_open(&request, &shared.opens) {
+        drop(request);
         return Err(AllocError);
     }
     worker.home.driver.lists_requests();
-    let Ok(id) = worker.home.driver.admit(
+    match worker.home.driver.admit(
         alloc,
         request,
         Observer::Local(None),
@@ -119,11 +123,13 @@ fn admit<B: Scripted + Drop>(
         &mut shared.opens,
         &mut worker.home.deferred,
         &mut shared.store,
-    )
-    else {
-        return Err(AllocError);
-    };
-    Ok(id)
+    ) {
+        Ok(id) => Ok(id),
+        Err(refused) => {
+            drop(refused);
+            Err(AllocError)
+        }
+    }
 }
 
 /// Makes room for one more request everywhere but at the driver. A body is told of it by 32 bits.

@@ -85,8 +85,8 @@ impl Model for Desk {
 impl Desk {
     /// A worker with this number, over a ring of four entries. None where memory is wanting.
     pub fn new(alloc: Global, worker: u32, store: &mut Store) -> Option<Self> {
-        let ring = SimRing::new(alloc, 4).ok()?;
         TimeoutWheel::validate_layout(1000, 100).ok()?;
+        let ring = SimRing::new(alloc, 4).ok()?;
         let driver = Driver::new(alloc, ring, 1000, 100, 0, store).ok()?;
         Some(Desk::with(alloc, worker, driver))
     }
@@ -238,7 +238,9 @@ impl Desk {
         self.stage_first(rt, opens);
         self.enter();
         same(rt, 1, &self.land_failed(rt, store), &Ok(()));
-        holds(rt, 2, self.reap(rt, alloc, opens).is_some());
+        let reaped = self.reap(rt, alloc, opens);
+        holds(rt, 2, reaped.is_some());
+        drop(reaped);
     }
 
     fn enter(&mut self) {

@@ -45,6 +45,8 @@ fn a_sleeper_is_waited_for_like_a_request(rt: HostRuntime) {
     let over = ours.wait(&rt, alloc, &mut sleep, 2, &mut answer);
     holds(&rt, 2, has_woken(&over));
     ours.release_sleeper_away(sleep);
+    drop(ours);
+    drop(store);
 }
 
 #[test]
@@ -67,6 +69,9 @@ fn a_sleeper_is_heard_of_elsewhere(rt: HostRuntime) {
     holds(&rt, 4, has_woken(&hears));
     theirs.release_sleeper(&rt, alloc, sleep);
     holds(&rt, 5, theirs.is_unasked());
+    drop(theirs);
+    drop(ours);
+    drop(store);
 }
 
 #[test]
@@ -85,6 +90,8 @@ fn a_sleeper_that_is_let_go_is_gone(rt: HostRuntime) {
     ours.apply_cancel(&rt, alloc, sent);
     same(&rt, 3, &ours.sleepers(), &0);
     same(&rt, 4, &ours.wakes(), &[].as_slice());
+    drop(ours);
+    drop(store);
 }
 
 /// Worker 0 with open 0.
@@ -161,6 +168,7 @@ fn a_sync_of_a_clean_open_is_over_at_once(rt: HostRuntime) {
     let failed = Started::Over(Err(Error::WriteFailed));
     syncing.begins(&rt, alloc, 1, 0, failed);
     holds(&rt, 2, syncing.ours.is_empty());
+    drop(syncing);
 }
 
 #[test]
@@ -177,4 +185,5 @@ fn a_sync_of_a_dirty_open_sends_its_outcome(rt: HostRuntime) {
     syncing.ours.close();
     let kept = Err(Error::BlobSyncFailed(0, Cause::Code(5)));
     syncing.begins(&rt, alloc, 2, 2, Started::Over(kept));
+    drop(syncing);
 }

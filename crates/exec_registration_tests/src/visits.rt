@@ -113,6 +113,7 @@ pub fn play(rt: &impl Abort, alloc: Global, rounds: &[Round]) {
     for round in rounds {
         desks.play_one(rt, alloc, round);
     }
+    drop(desks);
 }
 
 impl Desks {
@@ -167,15 +168,15 @@ impl Desks {
         match step {
             Visit::Poll(task, heard) => {
                 let told = self.ours.poll(rt, alloc, op, task, &mut self.answer);
-                holds(rt, at, is_heard(&told, heard));
+                hear(rt, at, told, heard);
             }
             Visit::PollThere(task, heard) => {
                 let told = self.theirs.poll(rt, alloc, op, task, &mut self.answer);
-                holds(rt, at, is_heard(&told, heard));
+                hear(rt, at, told, heard);
             }
             Visit::PollAway(heard) => {
                 let told = self.ours.poll_away(op, &mut self.answer);
-                holds(rt, at, is_heard(&told, heard));
+                hear(rt, at, told, heard);
             }
             Visit::Over => holds(rt, at, is_over(op)),
             Visit::Pending(waits) => same(rt, at, &op.pending(), &awaited(waits)),
@@ -229,7 +230,9 @@ impl Desks {
     fn send(&mut self, rt: &impl Abort, at: usize) {
         let told = self.ours.take_result().expect(rt, "no result");
         same(rt, at, &told.sender, &9);
-        holds(rt, at, self.answer.send(told.result).is_ok());
+        let sent = self.answer.send(told.result);
+        holds(rt, at, sent.is_ok());
+        drop(sent);
     }
 
     fn cancel(&mut self, rt: &impl Abort, alloc: Global, at: usize, id: WaiterId) {
@@ -247,6 +250,12 @@ fn awaited(waits: bool) -> Option<(u32, WaiterId)> {
 /// Whether a registration is over.
 fn is_over(op: &Operation) -> bool {
     matches!(op.state(), RegistrationState::Done)
+}
+
+/// Fails unless a poll answered this.
+fn hear(rt: &impl Abort, at: usize, told: Result<Option<RequestOutput>, Error>, heard: Heard) {
+    holds(rt, at, is_heard(&told, heard));
+    drop(told);
 }
 
 /// Whether a poll answered this.

@@ -32,8 +32,8 @@ fn difference(open_: &mut Open, alloc: Global, line: &str) -> Result<Option<Stri
     })
 }
 
-fn main(rt: HostRuntime) -> io::Result<()> {
-    let mut open_ = Open::new(rt.alloc());
+/// Replays the lines of the standard input, and tells what differs.
+fn replay_all(rt: &HostRuntime, open_: &mut Open) -> io::Result<()> {
     let (mut answers, mut differ) = (0u64, 0u64);
     for line in BufReader::new(rt.alloc(), rt.reader())?.lines(rt.alloc()) {
         let line = line?;
@@ -41,7 +41,7 @@ fn main(rt: HostRuntime) -> io::Result<()> {
             continue;
         }
         answers = answers.saturating_add(line.contains(" = ") as u64);
-        match difference(&mut open_, rt.alloc(), line.as_str()) {
+        match difference(open_, rt.alloc(), line.as_str()) {
             Ok(None) => {}
             Ok(Some(given)) => {
                 differ = differ.saturating_add(1);
@@ -54,4 +54,11 @@ fn main(rt: HostRuntime) -> io::Result<()> {
         }
     }
     println!(rt; "{answers} answers, {differ} differ")
+}
+
+fn main(rt: HostRuntime) -> io::Result<()> {
+    let mut open_ = Open::new(rt.alloc());
+    let ended = replay_all(&rt, &mut open_);
+    drop(open_);
+    ended
 }

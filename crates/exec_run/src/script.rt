@@ -349,6 +349,7 @@ impl<'a> Body for Script<'a> {
             return Err(said);
         };
         let Ok(()) = make_room(&mut self.held, request.is_some()) else {
+            drop(request);
             return Err(said);
         };
         let act = act_of(alloc, word, newest, request, self.program);

@@ -220,13 +220,9 @@ pub fn log_trace<O: Output>(
     let program = Program { scripts, limits };
     let roots = roots_of(alloc, workers, trace.root.as_slice(), program)?;
     let mut core = Core::new(alloc, &config, spin.iterations, files, sockets, roots)?;
-    take_steps(
-        alloc,
-        &mut core,
-        &program,
-        sink,
-        quiet,
-        trace.steps.as_slice(),
-    )?;
+    let steps = trace.steps.as_slice();
+    let taken = take_steps(alloc, &mut core, &program, sink, quiet, steps);
+    drop(core);
+    taken?;
     flush_all(sink)
 }

@@ -83,7 +83,7 @@ fn make_dedicated<B: Drop>(
     let number = TaskNo(number);
     let (slot, runnable) = TaskSlot::new(alloc, number, shared.set.id(), Some(worker), body);
     let role = Role::Dedicated;
-    let born = Worker::begin(
+    let Ok(born) = Worker::begin(
         alloc,
         &shared.config,
         role,
@@ -92,9 +92,13 @@ fn make_dedicated<B: Drop>(
         runnable,
         shared.clock,
         &mut shared.store,
-    )?;
+    ) else {
+        drop(slot);
+        drop(seat);
+        return Err(AllocError);
+    };
     shared.tasks.push_reserved(slot);
     shared.seats.push_reserved(seat);
-    nursery.born = Some(born);
+    drop(nursery.born.replace(born));
     Ok(number)
 }

@@ -6,12 +6,6 @@ mod found;
 #[cfg(test)]
 mod local;
 #[cfg(test)]
-mod logs;
-#[cfg(test)]
 mod pool;
 #[cfg(test)]
 mod run;
-#[cfg(test)]
-mod whole;
-#[cfg(test)]
-mod workers;

@@ -68,8 +68,8 @@ fn make_room(rt: &impl Abort, alloc: Global, told: &mut Deferred<Reply, Reply>)
 #[test]
 fn a_worker_polls_tasks_of_its_own_set_until_it_closes(rt: HostRuntime) -> Result<(), Fail> {
     let alloc = rt.alloc();
-    let mut worker = worker(alloc, &mut Store::new(alloc))?;
     let mut seat = Seat::new(alloc, true)?;
+    let mut worker = worker(alloc, &mut Store::new(alloc))?;
     let local = Local {
         worker: &mut worker,
         seat: &mut seat,
@@ -82,14 +82,15 @@ fn a_worker_polls_tasks_of_its_own_set_until_it_closes(rt: HostRuntime) -> Resul
     holds!(&rt; local.workers() == 1);
     local.worker.home.closing = true;
     holds!(&rt; !local.serves(OWN));
+    drop(worker);
     Ok(())
 }
 
 #[test]
 fn a_runnable_goes_into_the_run_queue(rt: HostRuntime) -> Result<(), Fail> {
     let alloc = rt.alloc();
-    let mut worker = worker(alloc, &mut Store::new(alloc))?;
     let mut seat = Seat::new(alloc, true)?;
+    let mut worker = worker(alloc, &mut Store::new(alloc))?;
     let mut local = Local {
         worker: &mut worker,
         seat: &mut seat,
@@ -101,6 +102,7 @@ fn a_runnable_goes_into_the_run_queue(rt: HostRuntime) -> Result<(), Fail> {
     let after = local.ready().len();
     holds!(&rt; before == 0);
     holds!(&rt; after == 1);
+    drop(worker);
     Ok(())
 }
 
@@ -109,8 +111,8 @@ fn a_request_that_nobody_waits_for_is_let_go(rt: HostRuntime) -> Result<(), Fail
     let alloc = rt.alloc();
     let mut store = Store::new(alloc);
     let mut opens = Opens::new(alloc, 0)?;
-    let mut worker = worker(alloc, &mut store)?;
     let mut seat = Seat::new(alloc, true)?;
+    let mut worker = worker(alloc, &mut store)?;
     let Ok(id) = worker.home.driver.admit(
         alloc,
         Request::Poll(PollRequest::new(0, None)),
@@ -135,5 +137,6 @@ fn a_request_that_nobody_waits_for_is_let_go(rt: HostRuntime) -> Result<(), Fail
     holds!(&rt; has_one);
     holds!(&rt; !worker.has_requests());
     holds!(&rt; worker.has_callbacks());
+    drop(worker);
     Ok(())
 }

@@ -1,4 +1,5 @@
-//! Whole runs: a trace or a text that is none, between ends that fail or don't, with the log or the complaint.
+//! Whole runs: a trace or a text that is none, between ends that fail or don't, with the log or the complaint. The logs
+//! of other runs stand in `runs`.
 
 use crate::found::same;
 use exec_base::io::{MemInput, MemOutput};
@@ -88,95 +89,6 @@ fn the_example_gives_its_quiet_log(rt: HostRuntime) -> Result<(), Fail> {
     same!(&rt; status, 0);
     same!(&rt; sink.bytes(), QUIET_LOG.as_bytes());
     same!(&rt; sink.passed(), QUIET_LOG.as_bytes());
-    Ok(())
-}
-
-#[test]
-fn no_steps_give_an_empty_log(rt: HostRuntime) -> Result<(), Fail> {
-    let text = format!(in rt.alloc(); "{HEADER}root end\nsteps\n")?;
-    for words in ["trace", "trace quiet"] {
-        let (status, sink) = call(rt.alloc(), words, text.as_str())?;
-        same!(&rt; status, 0);
-        same!(&rt; sink.bytes(), b"".as_slice());
-    }
-    Ok(())
-}
-
-#[test]
-fn a_root_that_ends_is_run_to_its_end(rt: HostRuntime) -> Result<(), Fail> {
-    let text = format!(in rt.alloc(); "{HEADER}root end\nsteps\nw 0 1000\n")?;
-    let (status, sink) = call(rt.alloc(), "trace quiet", text.as_str())?;
-    same!(&rt; status, 0);
-    let expected = "w 0 begin 0\nw 0 done 0\nw 0 close\nw 0 stop\nw 0 end\nw 0 refused\n";
-    same!(&rt; sink.bytes(), expected.as_bytes());
-    Ok(())
-}
-
-#[test]
-fn the_clock_wakes_a_sleeping_root(rt: HostRuntime) -> Result<(), Fail> {
-    let steps = "w 0 1000\nc 1000000\nw 0 1000\n";
-    let text = format!(in rt.alloc(); "{HEADER}root sleep 1000000 end\nsteps\n{steps}")?;
-    let (status, sink) = call(rt.alloc(), "trace quiet", text.as_str())?;
-    same!(&rt; status, 0);
-    let expected = "w 0 begin 0
-w 0 timer 0 1000000
-w 0 pend 0
-w 0 sleep 1000000
-w 0 refused
-c 1000000 clock
-w 0 fire 0
-w 0 wake 0
-w 0 begin 0
-w 0 got timer 0
-w 0 done 0
-w 0 close
-w 0 stop
-w 0 end
-w 0 refused
-";
-    same!(&rt; sink.bytes(), expected.as_bytes());
-    Ok(())
-}
-
-#[test]
-fn a_stir_has_a_line_of_its_own(rt: HostRuntime) -> Result<(), Fail> {
-    let text = format!(in rt.alloc(); "{HEADER}root await end\nsteps\ne 0\nw 0 1000\ne 0\ne 0\n")?;
-    let (status, sink) = call(rt.alloc(), "trace quiet", text.as_str())?;
-    same!(&rt; status, 0);
-    let expected = "e 0 refused
-w 0 begin 0
-w 0 wait none
-w 0 pend 0
-w 0 sleep ever
-w 0 refused
-e 0 stir
-e 0 refused
-";
-    same!(&rt; sink.bytes(), expected.as_bytes());
-    Ok(())
-}
-
-#[test]
-fn refused_steps_are_told_in_a_quiet_log(rt: HostRuntime) -> Result<(), Fail> {
-    let text = EXAMPLE.split_once("w 0").map_or("", |parts| parts.0);
-    let steps = "k 0 5\nw 0 1000\nk 0 11\nc 4611686018427387905\nw 7 1\n";
-    let text = format!(in rt.alloc(); "{text}{steps}")?;
-    let (status, sink) = call(rt.alloc(), "trace quiet", text.as_str())?;
-    same!(&rt; status, 0);
-    let expected = "k 0 5 refused
-w 0 begin 0
-w 0 admit 0 send
-w 0 wait 0
-w 0 pend 0
-w 0 enrol 0
-w 0 stage 0
-w 0 sleep 10000000
-w 0 refused
-k 0 11 refused
-c 4611686018427387905 refused
-w 7 refused
-";
-    same!(&rt; sink.bytes(), expected.as_bytes());
     Ok(())
 }
 

@@ -44,8 +44,8 @@ fn told(part: &mut Part, alloc: Global, line: &str) -> Result<Option<String>, Al
     }
 }
 
-fn main(rt: HostRuntime) -> io::Result<()> {
-    let mut part = Part::Nothing;
+/// Replays the lines of the standard input, and tells what differs.
+fn replay(rt: &HostRuntime, part: &mut Part) -> io::Result<()> {
     let (mut answers, mut differ) = (0u64, 0u64);
     for line in BufReader::new(rt.alloc(), rt.reader())?.lines(rt.alloc()) {
         let line = line?;
@@ -53,10 +53,17 @@ fn main(rt: HostRuntime) -> io::Result<()> {
             continue;
         }
         answers = answers.saturating_add(line.contains(" = ") as u64);
-        if let Some(told) = told(&mut part, rt.alloc(), line.as_str())? {
+        if let Some(told) = told(part, rt.alloc(), line.as_str())? {
             differ = differ.saturating_add(1);
             println!(rt; "{line}: {told}")?;
         }
     }
     println!(rt; "{answers} answers, {differ} differ")
+}
+
+fn main(rt: HostRuntime) -> io::Result<()> {
+    let mut part = Part::Nothing;
+    let ended = replay(&rt, &mut part);
+    drop(part);
+    ended
 }

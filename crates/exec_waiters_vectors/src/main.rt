@@ -31,10 +31,8 @@ fn difference(replay: &mut Replay, alloc: Global, line: &str) -> Result<Option<S
     })
 }
 
-fn main(rt: HostRuntime) -> io::Result<()> {
-    let Ok(mut replay) = Replay::new(rt.alloc()) else {
-        return Ok(());
-    };
+/// Replays the lines of the standard input, and tells what differs.
+fn replay_all(rt: &HostRuntime, replay: &mut Replay) -> io::Result<()> {
     let (mut answers, mut differ) = (0u64, 0u64);
     for line in BufReader::new(rt.alloc(), rt.reader())?.lines(rt.alloc()) {
         let line = line?;
@@ -42,7 +40,7 @@ fn main(rt: HostRuntime) -> io::Result<()> {
             continue;
         }
         answers = answers.saturating_add(line.contains(" = ") as u64);
-        match difference(&mut replay, rt.alloc(), line.as_str()) {
+        match difference(replay, rt.alloc(), line.as_str()) {
             Ok(None) => {}
             Ok(Some(given)) => {
                 differ = differ.saturating_add(1);
@@ -55,4 +53,13 @@ fn main(rt: HostRuntime) -> io::Result<()> {
         }
     }
     println!(rt; "{answers} answers, {differ} differ")
+}
+
+fn main(rt: HostRuntime) -> io::Result<()> {
+    let Ok(mut replay) = Replay::new(rt.alloc()) else {
+        return Ok(());
+    };
+    let ended = replay_all(&rt, &mut replay);
+    drop(replay);
+    ended
 }

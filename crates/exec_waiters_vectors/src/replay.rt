@@ -10,6 +10,7 @@ use exec_time::timers::Observation;
 use exec_waiters::completed::CompletionOutcome;
 use exec_waiters::deferred::Deferred;
 use exec_waiters::observer::Observer;
+use exec_waiters::waiter::Refused;
 use exec_waiters::waiter_id::WaiterId;
 use exec_waiters::waiters::Waiters;
 use std::alloc::{AllocError, Global};
@@ -33,6 +34,26 @@ fn tick(alloc: Global, tick: Option<u64>) -> Result<String, AllocError> {
     }
 }
 
+/// Who waits for a request, as the next words say.
+fn observer(words: &mut SplitWhitespace<'_>) -> Result<Observer<u64, u64>, Fault> {
+    match words.next() {
+        Some("local") => Ok(Observer::Local(None)),
+        Some("detached") => Ok(Observer::DetachedSync(number(words)?)),
+        _ => Err(Fault::Malformed),
+    }
+}
+
+/// The name that a request got. One that was refused is let go.
+fn taken_in(inserted: Result<WaiterId, InsertError<Refused<u64, u64>>>) -> Result<WaiterId, Fault> {
+    let fault = match &inserted {
+        Ok(id) => return Ok(*id),
+        Err(InsertError::Full(_)) => Fault::Condition,
+        Err(InsertError::NoMemory(_)) => Fault::Memory(AllocError),
+    };
+    drop(inserted);
+    Err(fault)
+}
+
 impl Replay {
     /// No requests.
     pub fn new(alloc: Global) -> Result<Self, AllocError> {
@@ -50,13 +71,26 @@ impl Replay {
             return Ok(format!(in alloc; "{data}")?);
         }
         let mut deferred = Deferred::new(alloc);
+        let line = self.line(alloc, word, &mut words, &mut deferred);
+        drop(deferred);
+        line
+    }
+
+    /// Makes the call of this word, and answers its whole line, with what it told.
+    fn line(
+        &mut self,
+        alloc: Global,
+        word: &str,
+        words: &mut SplitWhitespace<'_>,
+        deferred: &mut Deferred<u64, u64>,
+    ) -> Result<String, Fault> {
         let answer = match word {
-            "insert" => self.insert(alloc, &mut words)?,
-            "close" => self.close(alloc, &mut deferred)?,
-            "complete" => self.complete(alloc, &mut words)?,
-            _ => self.named(alloc, word, &mut words, &mut deferred)?,
+            "insert" => self.insert(alloc, words)?,
+            "close" => self.close(alloc, deferred)?,
+            "complete" => self.complete(alloc, words)?,
+            _ => self.named(alloc, word, words, deferred)?,
         };
-        let lists = text_of_lists(alloc, &deferred)?;
+        let lists = text_of_lists(alloc, deferred)?;
         let len = self.waiters.len();
         let flying = self.waiters.in_flight();
         Ok(format!(in alloc; "{answer} ; {lists} len {len} flying {flying}")?)
@@ -64,26 +98,20 @@ impl Replay {
 
     fn insert(&mut self, alloc: Global, words: &mut SplitWhitespace<'_>) -> Result<String, Fault> {
         let asked = request(alloc, words)?;
-        let observer = match words.next() {
-            Some("local") => Observer::Local(None),
-            Some("detached") => Observer::DetachedSync(number(words)?),
-            _ => return Err(Fault::Malformed),
-        };
-        if !observer.suits(&asked) {
-            return Err(Fault::Condition);
-        }
-        match self.waiters.insert(alloc, asked, observer) {
-            Ok(id) => {
-                if self.waiters.lacks_permit(id) {
-                    self.waiters
-                        .acquire_durability(id, &Some(OpenRecord::new()));
-                }
-                let (index, generation, data) = (id.0.index, id.0.generation, id.user_data());
-                Ok(format!(in alloc; "{index} {generation} data {data}")?)
+        let observer = match observer(words) {
+            Ok(observer) if observer.suits(&asked) => observer,
+            found => {
+                drop(asked);
+                return Err(found.err().unwrap_or(Fault::Condition));
             }
-            Err(InsertError::Full(_)) => Err(Fault::Condition),
-            Err(InsertError::NoMemory(_)) => Err(Fault::Memory(AllocError)),
+        };
+        let id = taken_in(self.waiters.insert(alloc, asked, observer))?;
+        if self.waiters.lacks_permit(id) {
+            self.waiters
+                .acquire_durability(id, &Some(OpenRecord::new()));
         }
+        let (index, generation, data) = (id.0.index, id.0.generation, id.user_data());
+        Ok(format!(in alloc; "{index} {generation} data {data}")?)
     }
 
     fn close(&mut self, alloc: Global, deferred: &mut Deferred<u64, u64>) -> Result<String, Fault> {
@@ -200,7 +228,9 @@ impl Replay {
         }
         Ok(match self.waiters.observe(id, task) {
             Observation::Ready(output) => {
-                let word = text_of_end(alloc, end_of(&output))?;
+                let ended = end_of(&output);
+                drop(output);
+                let word = text_of_end(alloc, ended)?;
                 format!(in alloc; "ready {word}")?
             }
             Observation::Pending => String::from_str(alloc, "pending")?,

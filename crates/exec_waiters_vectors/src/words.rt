@@ -101,6 +101,7 @@ pub fn request(alloc: Global, words: &mut SplitWhitespace<'_>) -> Result<Request
             let mut buf = IoBufMut::with_capacity(alloc, 8)?;
             buf.set_len(8);
             if buf.len() > 8 {
+                drop(buf);
                 return Err(Fault::Condition);
             }
             Request::ReadAt(ReadAtRequest::new(1, 0, buf, Cache::Enabled))

@@ -1,10 +1,9 @@
 //! How requests end.
 
-ghost use Rattle.std.specs.Prelude.{◌≡◌, ◌<◌, ◌≤◌, Some, None, Err, IfSome, true, false};
+ghost use Rattle.std.specs.Prelude.{◌≡◌, ◌<◌, ◌≤◌, Some, None, Err, IfSome, true};
 ghost use Rattle.exec_time.specs.WheelView.{wheel_of, room_of};
 ghost use Rattle.exec_request.specs.Requests.{record_after};
 ghost use Rattle.exec_waiters.specs.{States.{is_idle, is_flying, file_of}, Events.told_by_finish, Told.{HasPlaces, Tells}};
-ghost use Rattle.exec_lists.specs.Lists.{is_among};
 ghost use Rattle.exec_opens.specs.Opens.{account_in, with_account};
 ghost use Rattle.exec_driver.specs.{Driving.{seen, request_at}, Steps.{ended, cancelled_at, told_by_cancel, unscheduled}};
 
@@ -70,31 +69,28 @@ impl<R: Ring + Drop, S: Drop, F: Drop> Driver<R, S, F> {
         self.lists.withdraw(id);
     }
 
-    // Cancels a request: one in flight once, and one that has no operation ends. Whether its deadline was told says
-    // whether it can still be among those whose deadline came.
-    pub(super) fn cancel(&mut self, id: WaiterId, told: bool, deferred: &mut Deferred<S, F>)
+    // Cancels a request: one in flight once, and one that has no operation ends.
+    pub(super) fn cancel(&mut self, id: WaiterId, deferred: &mut Deferred<S, F>)
         requires room { HasPlaces deferred.old 1 }
-        requires late { told ≡ true → is_among id (seen self.old).lists.due ≡ false }
         ensures cancelled { seen self.new ≡ cancelled_at (seen self.old) id }
         ensures told { Tells deferred.old deferred.new (told_by_cancel id (request_at (seen self.old) id)) }
     {
         if self.waiters.is_in_flight(id) {
-            self.ask_cancel(id, told);
+            self.ask_cancel(id);
         } else if self.waiters.is_pending(id) {
             self.refuse(id, Error::Timeout, deferred);
         }
     }
 
     // Asks for the cancel of a request in flight, where nobody asked for that before.
-    fn ask_cancel(&mut self, id: WaiterId, told: bool)
+    fn ask_cancel(&mut self, id: WaiterId)
         requires flies { is_flying (request_at (seen self.old) id) ≡ true }
-        requires late { told ≡ true → is_among id (seen self.old).lists.due ≡ false }
         ensures { seen self.new ≡ cancelled_at (seen self.old) id }
     {
         let tick = self.waiters.target_tick(id);
         if self.waiters.cancel(id) {
             unschedule(&mut self.wheel, tick);
-            self.lists.cancel(id, told);
+            self.lists.cancel(id);
         }
     }
 }

@@ -72,7 +72,7 @@ impl<R: Ring + Drop, S: Drop, F: Drop> Driver<R, S, F> {
         ensures punctual { IsPunctual (seen self.old) → IsPunctual (seen self.new) }
     {
         if self.waiters.orphan(id, deferred) {
-            self.cancel(id, false, deferred);
+            self.cancel(id, deferred);
         }
     }
 
@@ -99,7 +99,7 @@ impl<R: Ring + Drop, S: Drop, F: Drop> Driver<R, S, F> {
     {
         let closed = self.waiters.close(deferred)?;
         if closed.cancels {
-            self.cancel(closed.id, false, deferred);
+            self.cancel(closed.id, deferred);
         }
         Some(closed.id)
     }

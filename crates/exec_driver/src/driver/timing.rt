@@ -47,7 +47,7 @@ impl<R: Ring + Drop, S: Drop, F: Drop> Driver<R, S, F> {
         ensures punctual { IsPunctual (seen self.old) → IsPunctual (seen self.new) }
     {
         let id = self.lists.next_due()?;
-        self.cancel(id, true, deferred);
+        self.cancel(id, deferred);
         Some(id)
     }
 

@@ -64,6 +64,7 @@ pub fn play<R: Wait + Abort>(
     }
     players.destroy_empty();
     drop(caller.leave());
+    drop(idle);
     Ok(())
 }
 

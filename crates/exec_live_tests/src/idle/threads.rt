@@ -3,6 +3,7 @@
 ghost use Rattle.std.specs.Prelude.{◌≡◌, ◌+◌, ◌<◌, false, if◌then◌else◌};
 ghost use Rattle.exec_live_idle.specs.{Idle.{knows, IsSeatOf, IsSame}, Live.next_number};
 
+use super::claims;
 use crate::found::{holds, same};
 use exec_live_idle::seat::{Idle, IdleSeat};
 use std::process::Abort;
@@ -84,8 +85,7 @@ fn three_threads_publish_at_once(rt: HostRuntime) -> Result<(), Fail> {
     );
     same!(&rt; idle.look(&mut caller), 7);
     idle.add(&mut caller);
-    // Compared here, since it says what the caller's seat holds.
-    assert_eq!(rt; idle.claim(&rt, &mut caller), Some(0));
+    claims(&rt, &idle, &mut caller, 0);
     join(
         &rt,
         || join(&rt, || zero.withdraw(&rt), || one.withdraw(&rt)),
@@ -93,6 +93,7 @@ fn three_threads_publish_at_once(rt: HostRuntime) -> Result<(), Fail> {
     );
     same!(&rt; [zero.end(&rt), one.end(&rt), two.end(&rt)], [Some(true), None, None]);
     drop(caller.leave());
+    drop(idle);
     Ok(())
 }
 
@@ -106,12 +107,12 @@ fn three_threads_publish_in_turn(rt: HostRuntime) -> Result<(), Fail> {
     join(&rt, || one.publish(&rt), || {});
     join(&rt, || two.publish(&rt), || {});
     idle.add(&mut caller);
-    // Compared here, since it says what the caller's seat holds.
-    assert_eq!(rt; idle.claim(&rt, &mut caller), Some(0));
+    claims(&rt, &idle, &mut caller, 0);
     join(&rt, || zero.withdraw(&rt), || {});
     join(&rt, || two.withdraw(&rt), || {});
     join(&rt, || one.withdraw(&rt), || {});
     same!(&rt; [zero.end(&rt), one.end(&rt), two.end(&rt)], [Some(true), None, None]);
     drop(caller.leave());
+    drop(idle);
     Ok(())
 }

@@ -1,9 +1,10 @@
 //! The making of a worker, of the pool or of a dedicated task.
 
-ghost use Rattle.std.specs.Prelude.{◌≡◌, ◌+◌, ◌^◌, ◌<◌, ◌≤◌, [], IfOk};
+ghost use Rattle.std.specs.Prelude.{◌≡◌, ◌+◌, ◌^◌, ◌<◌, ◌≤◌, [], IfOk, true, false};
 ghost use Rattle.exec_driver.specs.{Driving.seen, Punctual.IsPunctual, Steps.IsFresh as IsFreshDriver};
 ghost use Rattle.exec_machine.specs.Ranges.{horizon, ring_size as size_of_ring};
 ghost use Rattle.exec_ring.specs.Stores.{Same};
+ghost use Rattle.exec_waiters.specs.Told.{HasPlaces, is_untold};
 ghost use Rattle.exec_parts.specs.{Dedicated.{Begins, MayBegin, spins_in}, Records.HasNoNames};
 
 use crate::parts::letters::Letters;
@@ -26,7 +27,9 @@ use std::alloc::{AllocError, Global};
 /// So much may be told before anything was made: once by each message of a turn, and once more.
 const FIRST_TOLD: usize = 65;
 
-/// The driver of a worker of an executor.
+/// What a worker of an executor has of its own, and its driver.
+type OwnHome = Home<SimRing, Reply, Reply>;
+
 type OwnDriver = Driver<SimRing, Reply, Reply>;
 
 impl Worker {
@@ -49,10 +52,11 @@ impl Worker {
         ensures store { Same store.old store.new }
     {
         let size = ring_size(configuration);
-        let driver = first_driver(alloc, configuration, size, now, store)?;
-        let mut home = Home::new(alloc, index as u32, driver);
-        home.deferred.reserve(alloc, FIRST_TOLD)?;
         let rooms = first_rooms(alloc, size)?;
+        let Ok(home) = first_home(alloc, configuration, size, index, now, store) else {
+            drop(rooms);
+            return Err(AllocError);
+        };
         Ok(Worker {
             place: Place::BeginTurn,
             index,
@@ -90,8 +94,7 @@ struct Rooms {
     batch: Reserved<Mail>,
 }
 
-/// The lists of a worker whose ring holds so many operations. Made together, since each that is refused lets go of what
-/// the worker has by then. An `Err` comes only for want of memory.
+/// The lists of a worker whose ring holds so many operations. An `Err` comes only for want of memory.
 fn first_rooms(alloc: Global, size: usize) -> Result<Rooms, AllocError>
     ensures names { IfOk result (λ rooms. HasNoNames size rooms.names) }
     ensures loot { IfOk result (λ rooms. rooms.loot ≡ record { values = []; places = 129 }) }
@@ -102,6 +105,37 @@ fn first_rooms(alloc: Global, size: usize) -> Result<Rooms, AllocError>
         loot: Reserved::with_places(alloc, HALF + 1)?,
         batch: Reserved::with_places(alloc, 1)?,
     })
+}
+
+/// What worker `index` has of its own at first, with a ring of this size, and a wheel that begins now. It is dropped by a
+/// call where it is refused room: a drop where it goes out of scope is proved part by part, at its place. An `Err` comes
+/// only for want of memory.
+fn first_home(
+    alloc: Global,
+    configuration: &Configuration,
+    size: usize,
+    index: usize,
+    now: u64,
+    store: &mut Store,
+) -> Result<OwnHome, AllocError>
+    requires ranges { MayBegin configuration.now }
+    requires few { index < 2 ^ 32 }
+    ensures worker { IfOk result (λ home. home.worker ≡ index) }
+    ensures open { IfOk result (λ home. home.closing ≡ false) }
+    ensures fresh { IfOk result (λ home. IsFreshDriver (seen home.driver) size (horizon configuration.now) configuration.now.tick now) }
+    ensures punctual { IfOk result (λ home. IsPunctual (seen home.driver)) }
+    ensures asleep { IfOk result (λ home. (home.timers.slots ≡ []) × (home.timers.vacant ≡ []) × (home.timers.first ≡ 0)) }
+    ensures untold { IfOk result (λ home. is_untold home.deferred ≡ true) }
+    ensures room { IfOk result (λ home. HasPlaces home.deferred 65) }
+    ensures store { Same store.old store.new }
+{
+    let driver = first_driver(alloc, configuration, size, now, store)?;
+    let mut home = Home::new(alloc, index as u32, driver);
+    if home.deferred.reserve(alloc, FIRST_TOLD).is_err() {
+        drop(home);
+        return Err(AllocError);
+    }
+    Ok(home)
 }
 
 /// How long a worker looks before it sleeps.

@@ -239,7 +239,7 @@ impl<B: Drop> TaskSlot<B> {
         ensures hears { result ≡ not (is_complete self.old.cell.phase) }
         ensures sent { self.new ≡ record self.old { output = sent self.old.output output } }
     {
-        let _given_back = self.output.send(output);
+        drop(self.output.send(output));
         !self.is_over()
     }
 
@@ -323,7 +323,7 @@ impl<B: Body + Drop> TaskSlot<B> {
         match body.step(alloc, around, said) {
             Ok(act) => Ok(act),
             Err(said) => {
-                self.told = Some(said);
+                drop(self.told.replace(said));
                 Err(AllocError)
             }
         }

@@ -9,8 +9,8 @@ use Rattle.exec_run.proofs.stepping.log_trace.Goals as goal
 pub new-requires-clause-plan : goal.new-requires-clause-plan
 new-requires-clause-plan g c = grind (arith, plan_of)
 
-pub take_steps-requires : goal.take_steps-requires
-take_steps-requires g c =
+pub take_steps-taken-requires : goal.take_steps-taken-requires
+take_steps-taken-requires g c =
     let t = c.args.trace in
     let m = meaning_of t in
     let is = plan_of t c.as_slice-scripts.result.now c.as_slice.result.now c.in_ok-roots.roots.items _ c.requires.fits c.requires.in_range c.requires.few c.as_slice-scripts.ensures.value c.as_slice.ensures.value c.config_of-config.ensures.told c.in_ok-roots.ensures in
@@ -19,11 +19,11 @@ take_steps-requires g c =
       shows = c.in_ok-core.ensures.begins m.plan is;
       knows = known_of t c.as_slice-scripts.result.now c.requires.fits c.requires.in_range c.requires.few c.as_slice-scripts.ensures.value;
     } in
-    let names = subst (All (StepNames (length m.plan.scripts))) (sym c.as_slice-2.ensures.value) c.requires.fits.named.steps in
-    record { stands = (m.plan, first_playing m.plan, stands, names); fit = subst (All StepFits) (sym c.as_slice-2.ensures.value) c.requires.fits.formed.steps }
+    let names = subst (All (StepNames (length m.plan.scripts))) (sym c.as_slice-steps.ensures.value) c.requires.fits.named.steps in
+    record { stands = (m.plan, first_playing m.plan, stands, names); fit = subst (All StepFits) (sym c.as_slice-steps.ensures.value) c.requires.fits.formed.steps }
 
-pub returns-in_err-take_steps-clause-front : goal.returns-in_err-take_steps-clause-front
-returns-in_err-take_steps-clause-front g c =
+pub returns-in_err-taken-clause-front : goal.returns-in_err-taken-clause-front
+returns-in_err-taken-clause-front g c =
     let t = c.args.trace in
     let m = meaning_of t in
     let is = plan_of t c.as_slice-scripts.result.now c.as_slice.result.now c.in_ok-roots.roots.items _ c.requires.fits c.requires.in_range c.requires.few c.as_slice-scripts.ensures.value c.as_slice.ensures.value c.config_of-config.ensures.told c.in_ok-roots.ensures in
@@ -32,11 +32,11 @@ returns-in_err-take_steps-clause-front g c =
       shows = c.in_ok-core.ensures.begins m.plan is;
       knows = known_of t c.as_slice-scripts.result.now c.requires.fits c.requires.in_range c.requires.few c.as_slice-scripts.ensures.value;
     } in
-    let names = subst (All (StepNames (length m.plan.scripts))) (sym c.as_slice-2.ensures.value) c.requires.fits.named.steps in
+    let names = subst (All (StepNames (length m.plan.scripts))) (sym c.as_slice-steps.ensures.value) c.requires.fits.named.steps in
     let begins : BeginsWell m.plan = assumption (orderly itself Runs held_told spot_told m.plan c.in_ok-core.core (first_playing m.plan) stands.ready.stands stands.shows, c.in_ok-core.ensures.rests m.plan is, c.in_ok-core.ensures.paced m.plan is) in
-    gave_up c.from_residual-in_err-take_steps.result c.args.quiet m _ _
-    (front_logged c.args.quiet m c.as_slice-2.result.now _ _ _ begins c.requires.steps c.as_slice-2.ensures.value
-    (c.in_err-take_steps.ensures.breaks m.plan (first_playing m.plan) stands names) refl)
+    gave_up c.from_residual-in_err-taken.result c.args.quiet m _ _
+    (front_logged c.args.quiet m c.as_slice-steps.result.now _ _ _ begins c.requires.steps c.as_slice-steps.ensures.value
+    (c.in_err-taken.ensures.breaks m.plan (first_playing m.plan) stands names) refl)
 
 pub returns-clause-ok : goal.returns-clause-ok
 returns-clause-ok g c =
@@ -48,11 +48,11 @@ returns-clause-ok g c =
       shows = c.in_ok-core.ensures.begins m.plan is;
       knows = known_of t c.as_slice-scripts.result.now c.requires.fits c.requires.in_range c.requires.few c.as_slice-scripts.ensures.value;
     } in
-    let names = subst (All (StepNames (length m.plan.scripts))) (sym c.as_slice-2.ensures.value) c.requires.fits.named.steps in
+    let names = subst (All (StepNames (length m.plan.scripts))) (sym c.as_slice-steps.ensures.value) c.requires.fits.named.steps in
     let begins : BeginsWell m.plan = assumption (orderly itself Runs held_told spot_told m.plan c.in_ok-core.core (first_playing m.plan) stands.ready.stands stands.shows, c.in_ok-core.ensures.rests m.plan is, c.in_ok-core.ensures.paced m.plan is) in
     on_ok c.flush_all.result
-    (logged _ _ _ _ _ c.args.quiet m c.as_slice-2.result.now c.take_steps.new.core _ _ _ begins c.requires.steps c.as_slice-2.ensures.value
-    (c.in_ok-take_steps.ensures.leads m.plan (first_playing m.plan) stands names) c.flush_all.ensures.same)
+    (logged _ _ _ _ _ c.args.quiet m c.as_slice-steps.result.now c.take_steps-taken.new.core _ _ _ begins c.requires.steps c.as_slice-steps.ensures.value
+    (c.in_ok-taken.ensures.leads m.plan (first_playing m.plan) stands names) c.flush_all.ensures.same)
 
 pub returns-clause-front : goal.returns-clause-front
 returns-clause-front g c =
@@ -64,8 +64,8 @@ returns-clause-front g c =
       shows = c.in_ok-core.ensures.begins m.plan is;
       knows = known_of t c.as_slice-scripts.result.now c.requires.fits c.requires.in_range c.requires.few c.as_slice-scripts.ensures.value;
     } in
-    let names = subst (All (StepNames (length m.plan.scripts))) (sym c.as_slice-2.ensures.value) c.requires.fits.named.steps in
+    let names = subst (All (StepNames (length m.plan.scripts))) (sym c.as_slice-steps.ensures.value) c.requires.fits.named.steps in
     let begins : BeginsWell m.plan = assumption (orderly itself Runs held_told spot_told m.plan c.in_ok-core.core (first_playing m.plan) stands.ready.stands stands.shows, c.in_ok-core.ensures.rests m.plan is, c.in_ok-core.ensures.paced m.plan is) in
     gave_up c.flush_all.result c.args.quiet m _ _
-    (all_logged _ _ _ _ _ c.args.quiet m c.as_slice-2.result.now c.take_steps.new.core _ _ _ begins c.requires.steps c.as_slice-2.ensures.value
-    (c.in_ok-take_steps.ensures.leads m.plan (first_playing m.plan) stands names) c.flush_all.ensures.same)
+    (all_logged _ _ _ _ _ c.args.quiet m c.as_slice-steps.result.now c.take_steps-taken.new.core _ _ _ begins c.requires.steps c.as_slice-steps.ensures.value
+    (c.in_ok-taken.ensures.leads m.plan (first_playing m.plan) stands names) c.flush_all.ensures.same)

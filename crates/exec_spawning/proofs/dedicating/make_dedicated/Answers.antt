@@ -37,11 +37,11 @@ returns-clause-made g c =
       seats = c.push_reserved-2.ensures.items ∙ ap (λ xs. xs ++ c.in_ok-seat.seat ∷ []) c.reserve-2.ensures.items;
       places = omega (arith, ap (λ q. q.places) places, ap length tasks, length-append s.tasks.items (x ∷ []), count);
       more_places = omega (arith, ap (λ q. q.places) places);
-      born = c.in_ok-born.born;
-      begins = subst (λ i. Begins s.config Dedicated i (length s.tasks.items) (runnable_of x.cell) s.clock c.in_ok-born.born) worker
-          (subst (λ n. Begins s.config Dedicated c.len-worker.result n (runnable_of x.cell) s.clock c.in_ok-born.born) count
-          (subst (λ (r : Runnable). Begins s.config Dedicated c.len-worker.result c.len-count.result r s.clock c.in_ok-born.born) of_x.runnable c.in_ok-born.ensures.begins));
-      nursery = refl;
+      born = c.in-Ok-begin.born;
+      begins = subst (λ i. Begins s.config Dedicated i (length s.tasks.items) (runnable_of x.cell) s.clock c.in-Ok-begin.born) worker
+          (subst (λ n. Begins s.config Dedicated c.len-worker.result n (runnable_of x.cell) s.clock c.in-Ok-begin.born) count
+          (subst (λ (r : Runnable). Begins s.config Dedicated c.len-worker.result c.len-count.result r s.clock c.in-Ok-begin.born) of_x.runnable c.in-Ok-begin.ensures.begins));
+      nursery = ap (λ o. record c.args.nursery.now { born = o }) c.replace.ensures.after;
       store = c.begin.ensures.store;
       kept = ap (λ q. record s { seats = c.push_reserved-2.new.self; tasks = c.push_reserved.new.self; global = q; store = c.begin.new.store }) (places ∙ ap (λ m. record s.global { places = m }) (sym (ap (λ q. q.places) places)));
     }

@@ -11,7 +11,7 @@ pub cancel-requires-then-cancel : goal.cancel-requires-then-cancel
 cancel-requires-then-cancel g c =
     let there = flying_there (waiter_at c.self.inside.waiters c.args.id.0) (rw (← c.self.view_is) at c.requires.flies) in
     let un = unasked _ there.w there.is (sym c.cancel.ensures.answer ∙ c.if-cancel.true) in
-    record { room = room_to_cancel _ c.args.id there.w _ _ _ there.is there.flies un c.self.invariant; late = rw (← c.self.view_is) at c.requires.late }
+    record { room = room_to_cancel _ c.args.id there.w _ _ _ there.is there.flies un c.self.invariant }
 
 pub invariant_of-self : goal.invariant_of-self
 invariant_of-self g c =

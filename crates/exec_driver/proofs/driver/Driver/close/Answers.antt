@@ -1,14 +1,14 @@
 use Rattle.std.proofs.Common.{◌≡◌, true, sym, ◌∙◌, arith}
 use Rattle.exec_base.specs.Slab.{value_at}
 use Rattle.exec_waiters.specs.Events.{asks_cancel_by_orphan}
-use Rattle.exec_driver.proofs.{Words.false≢true, Observing.held_orphaned, Telling.{tells_both, few_closed, room_left}, Keeping.{cancelled_punctual, orphaned_punctual}, driver.Driver.close.Goals.{then-closed, else-closed}}
+use Rattle.exec_driver.proofs.{Observing.held_orphaned, Telling.{tells_both, few_closed, room_left}, Keeping.{cancelled_punctual, orphaned_punctual}, driver.Driver.close.Goals.{then-closed, else-closed}}
 use Rattle.exec_driver.proofs.driver.Driver.close.Goals as goal
 
 pub invariant_of-self-then-closed : goal.invariant_of-self-then-closed
 invariant_of-self-then-closed g c = rw c.in_ok-closed.ensures.orphaned (held_orphaned _ c.in_ok-closed.closed.id _ _ _ c.self.invariant)
 
 pub cancel-requires : goal.cancel-requires
-cancel-requires g c = record { room = room_left 2 1 _ _ _ (omega arith) (few_closed c.in_ok-closed.closed.id.0 _) c.in_ok-closed.ensures.told c.requires.room; late = λ told. absurd (false≢true told) }
+cancel-requires g c = record { room = room_left 2 1 _ _ _ (omega arith) (few_closed c.in_ok-closed.closed.id.0 _) c.in_ok-closed.ensures.told c.requires.room }
 
 pub invariant_of-self-else-closed : goal.invariant_of-self-else-closed
 invariant_of-self-else-closed g c = rw c.in_ok-closed.ensures.orphaned (held_orphaned _ c.in_ok-closed.closed.id _ _ _ c.self.invariant)

@@ -1,7 +1,7 @@
 use Rattle.std.proofs.Common.{◌≡◌, true, sym, ◌∙◌, arith}
 use Rattle.exec_base.specs.Slab.{value_at}
 use Rattle.exec_waiters.specs.Events.{asks_cancel_by_orphan}
-use Rattle.exec_driver.proofs.{Words.false≢true, Observing.held_orphaned, Telling.{tells_both, few_orphaned, room_left}, Keeping.{orphaned_punctual, let_go_punctual}}
+use Rattle.exec_driver.proofs.{Observing.held_orphaned, Telling.{tells_both, few_orphaned, room_left}, Keeping.{orphaned_punctual, let_go_punctual}}
 use Rattle.exec_driver.specs.Driving.{seen}
 use Rattle.exec_driver.proofs.driver.Driver.orphan.Goals as goal
 
@@ -9,7 +9,7 @@ pub invariant_of-self : goal.invariant_of-self
 invariant_of-self g c = rw c.orphan.ensures.orphaned (held_orphaned _ c.args.id _ _ _ c.self.invariant)
 
 pub cancel-requires : goal.cancel-requires
-cancel-requires g c = record { room = room_left 2 1 _ _ _ (omega arith) (few_orphaned c.args.id.0 _) c.orphan.ensures.told c.requires.room; late = λ told. absurd (false≢true told) }
+cancel-requires g c = record { room = room_left 2 1 _ _ _ (omega arith) (few_orphaned c.args.id.0 _) c.orphan.ensures.told c.requires.room }
 
 pub returns-then-orphan-clause-let_go : goal.returns-then-orphan-clause-let_go
 returns-then-orphan-clause-let_go g c = grind arith
