@@ -1,7 +1,8 @@
 """The abstract machine as a program: which event may come in which state, and what it changes.
 
-It says in Python what crates/exec_machine says as definitions, and was written from the same requirements by
-another hand. `tools/example` replays whole logs on it to find the choices, which a log doesn't tell.
+It says in Python what crates/exec_machine/specs says, of configurations in their ranges: there no deadline has passed
+as its request is admitted, and none is beyond the wheel. `tools/example` replays whole logs on it to find the choices,
+which a log doesn't tell.
 
 A `World` is a state. `World.choices` lists the choices that may explain a line, the likeliest first. `World.take` takes
 the line, or raises `Refused` with a few words that say why it may not come.
@@ -11,7 +12,7 @@ An action is a tuple: ("w", worker), ("x", caller), ("x", caller, "spawn", scrip
 its word and operands, or ("refused",).
 """
 from request_events import RequestEvents
-from state import CLOSING, DONE, ENDED, LANDED, OPEN, RESOLVED, State, Task, need
+from state import CLOSING, DONE, ENDED, LANDED, OPEN, State, Task, need
 from task_events import TaskEvents
 
 SERVICE = ("serve", "reap", "expire", "enrol", "grant", "cancel", "stage", "fire")
@@ -30,8 +31,7 @@ class World(State, TaskEvents, RequestEvents):
         kind = event[0]
         if kind == "turn":
             drains = me.phase == CLOSING and me.pool and not me.left and self.stopped
-            may_pass = drains and not me.owed and me.polls is None
-            return [("plain",), ("passes",)] if may_pass else [("plain",)]
+            return [("plain",), ("passes",)] if drains and not me.owed else [("plain",)]
         if kind == "wake":
             return self.wake_choices(i, event[1])
         if kind == "send":
@@ -142,18 +142,19 @@ class World(State, TaskEvents, RequestEvents):
         if was_left and not me.mailbox_closed or not me.pool and was_closing:
             if not me.mailbox_closed:
                 need(e == ("turn",), "the mailbox closes by a turn")
-            me.mailbox_closed = True
+            me.mailbox_closed, me.inbox = True, []
         if i == 0 and was_closing and not self.queue_closed:
             need(e == ("turn",), "the global queue closes by a turn")
             self.queue_closed = True
 
-    def idle(self, me):
+    def at_large(self, me):
         need(me.polls is None, "in the middle of a poll")
+        need(not me.owed, "messages are owed")
 
     def on_turn(self, i, me, e, choice):
         if choice[0] == "passes":
+            self.at_large(me)
             need(me.phase == CLOSING and me.pool and not me.left and self.stopped, "passes the barrier")
-            need(not me.owed, "messages are owed")
             me.left = True
 
     def on_send(self, i, me, e, choice):
@@ -209,9 +210,8 @@ class World(State, TaskEvents, RequestEvents):
         thing.forward = "sent"
 
     def on_apply(self, i, me, e, choice):
-        self.idle(me)
+        self.at_large(me)
         need(me.phase == OPEN, "applies while closing")
-        need(not me.owed, "messages are owed")
         need(me.inbox and me.inbox[0] == e[1], "not the first message")
         m = me.inbox.pop(0)
         if m == ("root",):
@@ -222,10 +222,7 @@ class World(State, TaskEvents, RequestEvents):
             z = self.sleepers[m[1]]
             z.removed = z.removed or not z.fired
         elif m[0] == "forward":
-            r = self.requests[m[1]]
-            r.forward = "applied"
-            if r.phase == RESOLVED:
-                r.observed = False
+            self.requests[m[1]].forward = "applied"
         else:
             self.sleepers[m[1]].forward = "applied"
 
@@ -233,21 +230,21 @@ class World(State, TaskEvents, RequestEvents):
         self.rouse(e[1])
 
     def on_close(self, i, me, e, choice):
-        self.idle(me)
-        need(me.phase == OPEN and self.tasks[me.root].phase == DONE and not me.owed, "its root isn't over")
+        self.at_large(me)
+        need(me.phase == OPEN and self.tasks[me.root].phase == DONE, "its root isn't over")
         me.phase = CLOSING
         if i == 0:
             self.set_closed = True
 
     def on_stop(self, i, me, e, choice):
+        self.at_large(me)
         need(i == 0 and me.phase == CLOSING and not self.stopped, "not worker zero's closing")
-        need(self.queue_closed, "the global queue is open")
         self.stopped = True
         me.owed += [(j, ("root",)) for j in range(1, self.c["workers"])]
 
     def on_end(self, i, me, e, choice):
-        self.idle(me)
-        need(me.phase == CLOSING and not me.owed and me.mailbox_closed, "not closing")
+        self.at_large(me)
+        need(me.phase == CLOSING and me.mailbox_closed, "not closing")
         need(all(r.released for r in self.requests if r.worker == i), "a request isn't released")
         if me.pool:
             need(all(w.left for w in self.pool), "not all have left")

@@ -6,16 +6,11 @@ from state import CLOSING, FLYING, GATED, OPEN, QUEUED, STAGED, need
 class RequestEvents:
     """Mixed into `World`."""
 
-    def serves(self, me):
-        self.idle(me)
-        need(not me.owed, "messages are owed")
-        need(me.phase != CLOSING or me.mailbox_closed, "a closing worker serves before its mailbox is closed")
-
     def on_serve(self, i, me, e, choice):
-        self.serves(me)
+        self.at_large(me)
 
     def on_grant(self, i, me, e, choice):
-        self.serves(me)
+        self.at_large(me)
         r = self.requests[e[1]]
         need(r.worker == i and r.phase == GATED, "not gated here")
         o = self.opens[r.target]
@@ -34,7 +29,7 @@ class RequestEvents:
             self.resolve(e[1], outcome)
 
     def on_enrol(self, i, me, e, choice):
-        self.serves(me)
+        self.at_large(me)
         need(me.fresh and me.fresh[0] == e[1], "not the first new deadline")
         r = self.requests[e[1]]
         need(r.phase == QUEUED, "not queued")
@@ -47,36 +42,32 @@ class RequestEvents:
             r.timer = self.fires_at(r)
 
     def on_stage(self, i, me, e, choice):
-        self.serves(me)
+        self.at_large(me)
         need(me.ready and me.ready[0] == e[1], "not the first ready")
         r = self.requests[e[1]]
         need(not r.cancelled, "cancelled")
         need(r.deadline is None or r.timer is not None, "its deadline isn't enrolled")
         need(self.in_flight(i) < self.ring, "the ring is full")
-        need(not me.fresh, "stage before every enrol")
         me.ready.pop(0)
         r.phase = STAGED
         buffered = r.kind == "hint" or r.kind == "direct" and r.switched
         r.hinted = buffered and self.opens[r.target].hint
 
     def on_enter(self, i, me, e, choice):
-        self.idle(me)
-        need(not me.owed, "messages are owed")
+        self.at_large(me)
         need(not me.busy, "the ring is busy")
-        need(me.phase != CLOSING or me.mailbox_closed, "enter before the mailbox is closed")
         for r in self.requests:
             if r.worker == i and r.phase == STAGED:
                 r.phase = FLYING
         me.untold = []
 
     def on_busy(self, i, me, e, choice):
-        self.idle(me)
-        need(not me.owed, "messages are owed")
+        self.at_large(me)
         need(me.busy, "the ring isn't busy")
         me.busy = False
 
     def on_reap(self, i, me, e, choice):
-        self.serves(me)
+        self.at_large(me)
         n, result = e[1], e[2]
         need(me.landed and me.landed[0] == n, "not the first landed")
         r = self.requests[n]
@@ -96,7 +87,7 @@ class RequestEvents:
             self.resolve(n, outcome)
 
     def on_expire(self, i, me, e, choice):
-        self.serves(me)
+        self.at_large(me)
         due = self.due(i, me.sampled)
         need(due, "nothing is due")
         tick = lambda m: (m - me.start) // self.c["tick"]
@@ -115,14 +106,14 @@ class RequestEvents:
             me.cancels.append(e[1])
 
     def on_cancel(self, i, me, e, choice):
-        self.serves(me)
+        self.at_large(me)
         need(me.cancels and me.cancels[0] == e[1], "not the first cancel")
         me.cancels.pop(0)
         self.requests[e[1]].cancel_staged = True
         me.untold.append(e[1])
 
     def on_orphan(self, i, me, e, choice):
-        self.idle(me)
+        self.at_large(me)
         need(me.phase == CLOSING and me.mailbox_closed, "not closing")
         r = self.requests[e[1]]
         need(r.worker == i and r.observed, "not observed here")
@@ -130,13 +121,13 @@ class RequestEvents:
         need(e[2:] == ((outcome,) if outcome else ()), f"another outcome than {outcome}")
 
     def on_release(self, i, me, e, choice):
-        self.idle(me)
+        self.at_large(me)
         need(me.ended and me.ended[0] == e[1], "not the first ended")
         me.ended.pop(0)
         self.requests[e[1]].released = True
 
     def on_fire(self, i, me, e, choice):
-        self.serves(me)
+        self.at_large(me)
         need(me.phase == OPEN, "fires on a closing worker")
         asleep = self.asleep(i)
         need(e[1] in asleep, "not asleep here")
@@ -146,8 +137,7 @@ class RequestEvents:
         z.fired = True
 
     def on_sleep(self, i, me, e, choice):
-        self.idle(me)
-        need(not me.owed, "messages are owed")
+        self.at_large(me)
         moments = [r.timer for r in self.requests if r.worker == i and r.timer is not None]
         if me.phase == OPEN:
             moments += [self.sleepers[n].until for n in self.asleep(i)]

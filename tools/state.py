@@ -236,8 +236,6 @@ class State:
         me.ended.append(n)
         if r.kind in DURABLE and self.opens[r.target].holder == n:
             self.opens[r.target].holder = None
-        if r.forward == "applied":
-            r.observed = False
 
     def cancel_request(self, n):
         r = self.requests[n]
@@ -318,7 +316,7 @@ class State:
             over = thing.fired or thing.removed
         if not (over or shut):
             return False
-        return thing.paid == 0 or (thing.paid == 1 and (thing.forward == "applied" or shut))
+        return thing.paid == 0 or thing.paid == 1 and thing.forward == "applied"
 
     def payers(self, t, i):
         awaited = self.tasks[t].waiting

@@ -18,9 +18,8 @@ class TaskEvents:
         return n, t
 
     def on_begin(self, i, me, e, choice):
-        self.idle(me)
+        self.at_large(me)
         need(me.phase == OPEN, "begins on a worker that isn't open")
-        need(not me.owed, "messages are owed")
         t = self.tasks[e[1]]
         need(t.phase == QUEUED, "not queued")
         need(t.home == i if t.home is not None else me.pool, "not polled here")
@@ -174,7 +173,7 @@ class TaskEvents:
             if word == ("yield",):
                 it.waiting = ("yielded",)
         else:
-            self.idle(me)
+            self.at_large(me)
             need(self.owes(self.thing(choice[1]), e[1], i), "owes nothing")
             self.pay(choice[1])
         self.wake(t)
@@ -206,15 +205,10 @@ class TaskEvents:
         t.place = p + 1
 
     def on_clear(self, i, me, e, choice):
-        self.idle(me)
-        need(self.set_closed and me.phase == CLOSING and me.pool and not me.left and not me.owed, "no drain")
+        self.at_large(me)
+        need(me.phase == CLOSING and me.pool and not me.left and self.stopped, "no drain")
         t = self.tasks[e[1]]
         need(t.home is None and not t.cleared, "a root, or cleared before")
-        if i == 0:
-            need(self.stopped, "worker zero drains after the stop")
-        if t.phase == DONE:
-            t.cleared = True
-            return
         t.cleared = True
         if t.phase in (IDLE, QUEUED):
             t.phase = DONE

@@ -134,7 +134,7 @@ def replay(trace, texts, tries=20000):
             after = world.clone() if untried else world
             try:
                 after.take(action, event, choice)
-            except Refused as refusal:
+            except (Refused, IndexError) as refusal:  # what isn't there passes no test
                 words = str(refusal)
                 continue
             if untried:
@@ -159,7 +159,10 @@ def options(world, lines, n):
     action, event = lines[n]
     if event == ("refused",):
         return [("plain",)]
-    found = world.choices(action, event)
+    try:
+        found = world.choices(action, event)
+    except IndexError:
+        return [("plain",)]
     return by_what_follows(world, lines, n, found) if len(found) > 1 and event == ("turn",) else found
 
 

@@ -25,9 +25,11 @@ mod sure;
 pub use memory::{MemInput, MemOutput};
 pub use standard::{StdInput, StdOutput};
 pub use sure::{SureInput, SureOutput};
+use thiserror::Error;
 
 /// Why a call of a source or a sink gave nothing: it failed, and its count of faults rose.
-#[derive(Clone, Copy, Debug, PartialEq, Eq)]
+#[derive(Clone, Copy, Debug, PartialEq, Eq, Error)]
+#[error("the source or the sink failed")]
 pub struct Failed;
 
 /// The end that the program reads: bytes that come in pieces.

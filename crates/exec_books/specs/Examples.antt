@@ -2,7 +2,7 @@
 -- workers that have just begun.
 use Rattle.std.specs.Prelude.{List, [], ◌∷◌, None}
 use Rattle.exec_outcomes.specs.declared.outcome.Kind.TheVariants.{Dsync}
-use Rattle.exec_machine.specs.{declared.state.{Request.Request, RequestPhase.TheVariants.Gated, Sleeper.Sleeper}, Examples.usual, Progress.Plan, Run.first_common, Tests.{set_request, set_seat}, World.{Common, Open, Own, Seat, World, no_operation, own_of, request_of, seat_of}}
+use Rattle.exec_machine.specs.{declared.state.{Request.Request, RequestPhase.TheVariants.Gated, Rest.TheVariants.Awake, Sleeper.Sleeper}, Examples.usual, Progress.Plan, Run.first_common, Tests.{set_request, set_seat}, World.{Common, Open, Own, Seat, World, no_operation, own_of, request_of, seat_of}}
 use Rattle.exec_machine.specs.declared.config.ScriptWord.TheVariants as word
 use Rattle.exec_machine.specs.declared.step.Step.TheVariants as step
 use Rattle.exec_moves.specs.{Departures.played, Plays.{Playing, first_playing, log_by_moves}}
@@ -34,12 +34,12 @@ with_own me r = record { workers = me ∷ []; common = set_request sending.commo
 abbrev pub with_seat : Seat → World
 with_seat seat = record sending { common = set_seat sending.common 0 seat }
 
--- A durable write in its place, which waits for the permit of its open; and where it has this gate.
+-- A durable write in its place, which waits for the permit of its open; and where that has this gate, while the worker is awake.
 abbrev pub its_write : Request
 its_write = record its_request { operation = record no_operation { kind = Dsync; length = 10 }; phase = Gated; timer = None }
 
 abbrev pub at_gate : Own → Open → Request → World
-at_gate me o r = let w = with_own me r in record w { common = record w.common { opens = o ∷ [] } }
+at_gate me o r = let w = with_own me r in record w { common = record w.common { opens = o ∷ []; seats = record its_seat { rest = Awake } ∷ [] } }
 
 -- The same beside a second worker, with sleepers.
 abbrev pub beside : Own → Seat → List Sleeper → World

@@ -68,12 +68,12 @@ pub fn at_a_gate()
 /// request to tell the kernel; or that has ended, and somebody sleeps there. A sleeper is of a worker that isn't there,
 /// or was forwarded by a message that is in no inbox.
 pub fn wrong_books()
-    ensures listed { IsBooked (with_own its_own (record its_request { phase = phase.Queued })) → ⊥ }
-    ensures gated { IsBooked (at_gate its_own no_open its_write) → ⊥ }
-    ensures permit { IsBooked (at_gate (record its_own { ready = 0 ∷ [] }) (record no_open { holder = Some 1 })
+    ensures listed { IsBooked (with_own (record its_own { in_flight = 0 }) (record its_request { phase = phase.Queued })) → ⊥ }
+    ensures gated { IsBooked (at_gate (record its_own { in_flight = 0 }) no_open its_write) → ⊥ }
+    ensures permit { IsBooked (at_gate (record its_own { ready = 0 ∷ []; in_flight = 0 }) (record no_open { holder = Some 1 })
         (record its_write { phase = phase.Queued })) → ⊥ }
-    ensures unled { IsBooked (at_gate its_own (record no_open { waiting = 0 ∷ [] }) its_write) → ⊥ }
-    ensures timed { IsBooked (with_own (record its_own { ended = 0 ∷ [] })
+    ensures unled { IsBooked (at_gate (record its_own { in_flight = 0 }) (record no_open { waiting = 0 ∷ [] }) its_write) → ⊥ }
+    ensures timed { IsBooked (with_own (record its_own { ended = 0 ∷ []; in_flight = 0 })
         (record its_request { phase = phase.Resolved Success })) → ⊥ }
     ensures undated { IsBooked (with_own its_own
         (record its_request { operation = record its_request.operation { kind = Read } })) → ⊥ }
@@ -81,14 +81,16 @@ pub fn wrong_books()
         (record its_request { released = true })) → ⊥ }
     ensures counted { IsBooked (with_own (record its_own { unreleased = 2 }) its_request) → ⊥ }
     ensures flying { IsBooked (with_own (record its_own { in_flight = 7 }) its_request) → ⊥ }
-    ensures requests { IsBooked (with_own its_own (record its_request { worker = 1 })) → ⊥ }
+    ensures requests { IsBooked (at_gate (record its_own { unreleased = 0; in_flight = 0 }) no_open
+        (record its_request { worker = 1; phase = phase.Resolved Success; released = true; timer = None })) → ⊥ }
     ensures sent { IsBooked (with_own its_own (record its_request { forwarding = Sent })) → ⊥ }
     ensures past { IsBooked (with_seat (record its_seat { rest = rest.Forever })) → ⊥ }
     ensures late { IsBooked (record sending { common = record sending.common { clock = 10000000 } }) → ⊥ }
     ensures untold { IsBooked (beside (record (new_own 0 1) { untold = 0 ∷ [] }) (new_seat true) []) → ⊥ }
     ensures over { IsBooked (beside (new_own 0 1) (record (new_seat true) { phase = Ended })
         (new_sleeper 20000000 1 1 ∷ [])) → ⊥ }
-    ensures sleepers { IsBooked (beside (new_own 0 1) (new_seat true) (new_sleeper 20000000 2 1 ∷ [])) → ⊥ }
+    ensures sleepers { IsBooked (beside (new_own 0 1) (new_seat true)
+        (record (new_sleeper 20000000 2 1) { removed = true } ∷ [])) → ⊥ }
     ensures sent_too { IsBooked (beside (new_own 0 1) (new_seat true)
         (record (new_sleeper 20000000 1 1) { forwarding = Sent } ∷ [])) → ⊥ }
 {}

@@ -194,7 +194,7 @@ module _ {B L : Type 0} (left : B → L) (spot : L → Option Said → Spot) whe
       ap (slice_set x.desks i) (desk_there left spot p c i ends.before ends.was) ∙ set_found x.desks i (desk_of ends.before) (slice_get-map desk_of c.workers.items i ∙ ap (option_map desk_of) ends.was) in
       record {
         choice = Plain;
-        follows = (sym (enabled_as left spot p c (action.EndPoll i) stands) ∙ may, (refl, tt));
+        follows = (sym (enabled_as left spot p c (action.EndPoll i) stands.together.seats) ∙ may, (refl, tt));
         becomes = ap (λ (y : Playing). y.world) (rung i last_told (λ k. k) (λ s. s) p c d stands config ends);
         callers = λ h. ends.callers;
         goes = played_as (action.EndPoll i) event.Set (playing left spot p d) _
@@ -215,7 +215,7 @@ module _ {B L : Type 0} (left : B → L) (spot : L → Option Said → Spot) whe
       } in
       record {
         choice = Plain;
-        follows = (sym (enabled_as left spot p c (action.Land r n) stands) ∙ may, (refl, tt));
+        follows = (sym (enabled_as left spot p c (action.Land r n) stands.together.seats) ∙ may, (refl, tt));
         becomes = ap (λ (y : Playing). y.world) (rung k passed (λ desk. record desk { others = 0 }) (λ s. after_landing s r n) p c d stands config lands.rings);
         callers = λ h. lands.rings.callers;
         goes = played_as (action.Land r n) event.Land (playing left spot p d) _

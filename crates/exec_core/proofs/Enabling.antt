@@ -13,7 +13,7 @@ use Rattle.exec_moves.specs.declared.handing.CallPlace.TheVariants as call
 use Rattle.exec_parts.specs.{Spots.Spot, View.{Visible, visible, seat_seen, seats_seen, task_seen}, declared.parts.seat.Seat.Seat as Chair}
 use Rattle.exec_polling.specs.{Calling.{call_of, is_free}, declared.caller.Caller.Caller}
 use Rattle.exec_core.proofs.Lifting.{suc_same}
-use Rattle.exec_core.specs.{Lift.{Stands, world, may_take, may_call_in, may_go_on_in, may_work_in, may_land_in, has_begun, sleeps, all_left_of}, declared.executor.Core.Core}
+use Rattle.exec_core.specs.{Lift.{world, may_take, may_call_in, may_go_on_in, may_work_in, may_land_in, has_begun, sleeps, all_left_of}, declared.executor.Core.Core}
 
 never : (n : ℕ) → zero ≡ suc n → ⊥
 never n h = omega arith
@@ -51,23 +51,23 @@ may_call_as : (cs : List Caller) (j : ℕ) → may_call_in (slice_get cs j) ≡ 
 may_call_as cs j = by_map (λ (x : Caller). call_of x.place) cs j half.HalfDone may_call_in (λ x. not (is_half_done x)) refl (λ x. free_as x.place)
 
 module _ {B L : Type 0} (left : B → L) (spot : L → Option Said → Spot) where
-  pub enabled_as : (p : Plan) (c : Core B) (a : Action) → Stands c → may_take c a ≡ is_enabled (world left spot p c).common a
-  enabled_as p c (action.Work i) stands =
+  pub enabled_as : (p : Plan) (c : Core B) (a : Action) → length c.workers.items ≡ length c.shared.seats.items → may_take c a ≡ is_enabled (world left spot p c).common a
+  enabled_as p c (action.Work i) seats =
       let vs = map visible c.workers.items in
-      let same : length vs ≡ length c.shared.seats.items = length-map c.workers.items visible ∙ stands.together.seats in
+      let same : length vs ≡ length c.shared.seats.items = length-map c.workers.items visible ∙ seats in
       by_chair vs c.shared.seats.items i (may_work_in c.shared.seats.items) (may_work (world left spot p c).common) same refl
       (λ v chair. ap (λ b. is_awake chair.rest && not (has_ended chair.phase) && not (chair.pool && chair.left && not b)) (all_seen vs c.shared.seats.items same))
-  enabled_as p c (action.Clock d) stands = refl
-  enabled_as p c (action.Land r n) stands =
+  enabled_as p c (action.Clock d) seats = refl
+  enabled_as p c (action.Land r n) seats =
       by_map (λ x. x.shown) c.shared.requests.items r no_request (λ x. may_land_in x n) (λ it. is_flying it.phase && is_lawful (window_of (asked_of it.operation) (cursor_of it.operation)) n) refl (λ x. refl)
-  enabled_as p c (action.SetBusy i) stands =
-      by_chair (map visible c.workers.items) c.shared.seats.items i has_begun (λ seat. not (has_ended seat.phase)) (length-map c.workers.items visible ∙ stands.together.seats) refl (λ v chair. refl)
-  enabled_as p c (action.EndPoll i) stands =
-      by_chair (map visible c.workers.items) c.shared.seats.items i has_begun (λ seat. not (has_ended seat.phase)) (length-map c.workers.items visible ∙ stands.together.seats) refl (λ v chair. refl)
-  enabled_as p c (action.Stir i) stands =
-      by_chair (map visible c.workers.items) c.shared.seats.items i sleeps (λ seat. not (is_awake seat.rest)) (length-map c.workers.items visible ∙ stands.together.seats) refl (λ v chair. refl)
-  enabled_as p c (action.Peer l) stands = refl
-  enabled_as p c (action.Spawn j k) stands = may_call_as c.callers.items j
-  enabled_as p c (action.Wake j t) stands = grind (arith, may_call_as c.callers.items j, length-map c.shared.tasks.items (task_seen left spot))
-  enabled_as p c (action.GoOn j) stands =
+  enabled_as p c (action.SetBusy i) seats =
+      by_chair (map visible c.workers.items) c.shared.seats.items i has_begun (λ seat. not (has_ended seat.phase)) (length-map c.workers.items visible ∙ seats) refl (λ v chair. refl)
+  enabled_as p c (action.EndPoll i) seats =
+      by_chair (map visible c.workers.items) c.shared.seats.items i has_begun (λ seat. not (has_ended seat.phase)) (length-map c.workers.items visible ∙ seats) refl (λ v chair. refl)
+  enabled_as p c (action.Stir i) seats =
+      by_chair (map visible c.workers.items) c.shared.seats.items i sleeps (λ seat. not (is_awake seat.rest)) (length-map c.workers.items visible ∙ seats) refl (λ v chair. refl)
+  enabled_as p c (action.Peer l) seats = refl
+  enabled_as p c (action.Spawn j k) seats = may_call_as c.callers.items j
+  enabled_as p c (action.Wake j t) seats = grind (arith, may_call_as c.callers.items j, length-map c.shared.tasks.items (task_seen left spot))
+  enabled_as p c (action.GoOn j) seats =
       by_map (λ (x : Caller). call_of x.place) c.callers.items j half.Nothing may_go_on_in is_half_done refl (λ x. calling_as x.place)

@@ -39,7 +39,7 @@ module _ {B L : Type 0} (left : B → L) (runs : L → Plan → Option ℕ → T
       → Applies left runs holds spot p (playing left spot p c) a (record { action = a; said = Refused }) c
   refused_here p c a stands barred shows =
       let x = playing left spot p c in
-      let disabled : is_enabled x.world.common a ≡ false = sym (enabled_as left spot p c a stands) ∙ barred in
+      let disabled : is_enabled x.world.common a ≡ false = sym (enabled_as left spot p c a stands.together.seats) ∙ barred in
       let by : by_step p.config x a ≡ none_of a x = ap (λ b. if b then by_action p.config x a else none_of a x) disabled in
       let after : Shows left runs holds spot p c (by_step p.config x a).next = record { config = shows.config; performs = shows.performs; is = ap (λ (y : Played). y.next) (sym by) } in
       let goes : Follows p.config x.world a (by_step p.config x a).told.0.said (by_step p.config x a).told.1 = subst (λ (y : Played). Follows p.config x.world a y.told.0.said y.told.1) (sym by) (ap not disabled, tt) in

@@ -1,20 +1,20 @@
 -- A step that may want memory, by what came of it; and what a step that may be taken finds.
-use Rattle.std.proofs.{Common.{◌≡◌, ℕ, ◌+◌, ◌^◌, ◌<◌, ◌++◌, true, false, List, length, get_or, option_to_list, Result, Ok, Err, Option, None, Some, refl, sym, ap, subst, ◌∙◌, arith, slice_get, slice_set}, lemmas.{Bool.{false≢true}, List.length-set, Option.{slice_get_within, slice_get_past, slice_get-get_or}}}
+use Rattle.std.proofs.{Common.{◌≡◌, ℕ, ◌+◌, ◌^◌, ◌<◌, ◌++◌, true, false, List, length, get_or, option_to_list, Result, Ok, Err, Option, None, Some, refl, sym, ap, subst, ◌∙◌, arith, slice_get, slice_set}, lemmas.{Bool.{false≢true}, List.{length-map, length-set}, Option.{slice_get_within, slice_get_past, slice_get-get_or}}}
 use Rattle.std.specs.Prelude.{slice_index_or, nat_lt, is_err, IfOk, OnOk, OnErr}
 use Rattle.std.proofs.lemmas.Bool.{ltb-false, not-true}
 pub use Rattle.std.proofs.lemmas.Bool.{ltb-true}
 use Rattle.exec_outcomes.specs.{declared.outcome.{Kind.TheVariants.Direct, OpResult.OpResult}}
 use Rattle.exec_task.specs.declared.body.Said.{Said}
-use Rattle.exec_machine.specs.{declared.{event.Event.Event, step.Action.Action}, Progress.Plan, World.Common}
-use Rattle.exec_moves.specs.State.{Desk, WakePoll}
+use Rattle.exec_machine.specs.{declared.{event.Event.Event, state.Request.Request, step.Action.Action}, Progress.Plan, World.Common}
+use Rattle.exec_moves.specs.{Plays.Playing, State.{Desk, WakePoll}}
 use Rattle.exec_machine.specs.declared.step.Action.TheVariants as action
-use Rattle.exec_parts.specs.{declared.parts.{record.Record.Record, shared.Shared.Shared, worker.Worker.Worker}, MailPosts.HaveMailboxes, Phased.{IsGoing, TurnsChair}, Records.roused, Spots.Spot}
+use Rattle.exec_parts.specs.{declared.parts.{record.Record.Record, shared.Shared.Shared, worker.Worker.Worker}, MailPosts.HaveMailboxes, Phased.{IsGoing, TurnsChair}, Records.{IsCountable, roused}, Spots.Spot, View.{desk_of, word_at}}
 use Rattle.exec_polling.specs.{declared.caller.Caller.Caller, Calling.{HasCallWhole, is_free}}
 use Rattle.exec_invariants.specs.{Acting.{PerformsAll, StepsWith}, Sound.Sound, Whole.{HasWhole, IsWhole, Profile}, Works.Same}
-use Rattle.exec_invariants.proofs.SparedRecord.{there_within}
+use Rattle.exec_invariants.proofs.{Lined.{mapped, unmapped}, SparedRecord.there_within}
 use Rattle.exec_steps.proofs.Together.{has_call_whole, has_whole, have_mailboxes}
 use Rattle.exec_core.proofs.{Applying.{asleep_there, begun_there, going_there, landing_there, owner_there, worker_there, working_there}, CoreCalls.{call_stands, spawn_called}, Enabling.enabled_as, Lifting.{as_before, lifted, stands_again, stands_by, stands_worked}}
-use Rattle.exec_core.specs.{Lift.{Calls, IsAsBefore, Keeps, Rings, Sees, Stands, Takes, WorkerStays, WorkerSteps, has_begun, may_call_in, may_go_on_in, may_take}, declared.executor.Core.Core}
+use Rattle.exec_core.specs.{Lift.{Calls, CanBeAsked, IsAsBefore, Keeps, Rings, Sees, Stands, Takes, WorkerStays, WorkerSteps, has_begun, may_call_in, may_go_on_in, may_take}, declared.executor.Core.Core}
 
 -- what a list has in a place, and that it has nothing there
 pub item_there : {X : Type 0} (xs : List X) (i : ℕ) (x : X) → true ≡ nat_lt i (length xs) → x ≡ slice_index_or xs i x → slice_get xs i ≡ Some x
@@ -50,7 +50,7 @@ module _ {B L : Type 0} (left : B → L) (runs : L → Plan → Option ℕ → T
 module _ {B L E : Type 0} (left : B → L) (runs : L → Plan → Option ℕ → Type 0) (holds : L → Option Said → List ℕ) (spot : L → Option Said → Spot) where
   pub worked : (i : ℕ) (c d : Core B) (result : Result Event E) → Stands c → may_take c (action.Work i) ≡ true → IfOk result (λ e. WorkerSteps left runs holds spot i c e d)
       → IfOk result (λ e. (p : Plan) → c.shared.config ≡ p.config → PerformsAll left runs holds p c.shared → Takes left spot p c (action.Work i) e d)
-  worked i c d (Ok e) stands may steps = λ p config performs. lifted left runs holds spot i p c d e stands steps config performs (sym (enabled_as left spot p c (action.Work i) stands) ∙ may)
+  worked i c d (Ok e) stands may steps = λ p config performs. lifted left runs holds spot i p c d e stands steps config performs (sym (enabled_as left spot p c (action.Work i) stands.together.seats) ∙ may)
   worked i c d (Err x) stands may steps = tt
 
   pub worked_stands : (i : ℕ) (c d : Core B) (result : Result Event E) → Stands c → c.spent ≡ false → IfOk result (λ e. WorkerSteps left runs holds spot i c e d) → OnOk result (Stands d × (d.spent ≡ false))
@@ -107,6 +107,10 @@ module _ {B : Type 0} where
       let bounded = plain.bounded in
       omega (arith, bounded)
 
+  -- which steps may be taken can be asked of what stands
+  pub asked : (c : Core B) → Stands c → CanBeAsked c
+  asked c stands = record { seats = stands.together.seats; countable = λ k r there. not_direct c k r stands there }
+
   pub land_read : (c : Core B) (r : ℕ) (n : OpResult) (it : Record) → may_take c (action.Land r n) ≡ true → it ≡ get_or c.shared.requests.items r it → slice_get c.shared.requests.items r ≡ Some it
   land_read c r n it may is = slice_get-get_or c.shared.requests.items r it (lands_within c r n may) ∙ ap (λ x. Some x) (sym is)
 
@@ -147,6 +151,22 @@ module _ {B L : Type 0} (left : B → L) (spot : L → Option Said → Spot) whe
   pub rings_stand : (i : ℕ) (poll : WakePoll → WakePoll) (desk : Desk → Desk) (all : Common → Common) (c d : Core B) → Stands c → c.spent ≡ false → Rings left spot i poll desk all c d → Stands d × (d.spent ≡ false)
   rings_stand i poll desk all c d stands unspent rings =
       (stands_worked c d i rings.before rings.after stands rings.was rings.workers rings.callers rings.index rings.sound rings.beside, rings.spent ∙ unspent)
+
+  -- and of what is as it was before
+  pub asked_again : (p : Plan) (c d : Core B) → CanBeAsked c → IsAsBefore left spot c d → CanBeAsked d
+  asked_again p c d it same =
+      let seen = same p in
+      let workers : length d.workers.items ≡ length c.workers.items =
+      sym (length-map d.workers.items desk_of) ∙ ap (λ (x : Playing). length x.desks) seen ∙ length-map c.workers.items desk_of in
+      let seats : length d.shared.seats.items ≡ length c.shared.seats.items =
+      sym (length-map d.shared.seats.items word_at) ∙ ap (λ (x : Playing). length x.things.words) seen ∙ length-map c.shared.seats.items word_at in
+      record {
+        seats = workers ∙ it.seats ∙ sym seats;
+        countable = λ k r there.
+            let was = unmapped (λ (x : Record). x.shown) c.shared.requests.items k r.shown
+            (sym (ap (λ (x : Playing). slice_get x.world.common.requests k) seen) ∙ mapped (λ (x : Record). x.shown) d.shared.requests.items k r there) in
+            subst (λ (x : Request). IsCountable x.operation) was.2 (it.countable k was.0 was.1);
+      }
 
 module _ {B L E : Type 0} (left : B → L) (spot : L → Option Said → Spot) where
   pub spawn_stands : (j k : ℕ) (c d : Core B) (result : Result Event E) → Stands c → c.spent ≡ false → IfOk result (λ e. Calls left spot (action.Spawn j k) j c e d) → OnOk result (Stands d × (d.spent ≡ false))

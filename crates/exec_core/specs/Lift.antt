@@ -7,7 +7,7 @@ use Rattle.exec_task.specs.declared.body.Said.{Said, TheVariants.Start}
 use Rattle.exec_machine.specs.{declared.{config.Configuration.Configuration, event.{Event.Event, Line.Line, StepResult.TheVariants.Did}, state.Code.{Code, TheVariants.{Root, Waits}}, step.Action.Action}, Callers.after_landing, Choice.Choice, World.{World, Common}, Requests.{asked_of, cursor_of}, Tests.{is_awake, has_ended, is_flying}, Run.{Follows, after_event}, Progress.Plan}
 use Rattle.exec_machine.specs.declared.step.Action.TheVariants as action
 use Rattle.exec_moves.specs.{State.{Desk, WakePoll, wake_poll_of, passed}, Thing.set_wake_poll, Plays.{Played, Playing, by_action, by_step, last_told}}
-use Rattle.exec_parts.specs.{Scripts.IsBorn, Spots.Spot, View.{Views, Visible, own_of, visible, with_view, desk_of, common_of, things_with}, declared.parts.{record.Record.Record, seat.Seat.Seat as Chair, sleeping.SleeperRecord.SleeperRecord, worker.Worker.Worker}}
+use Rattle.exec_parts.specs.{Records.IsCountable, Scripts.IsBorn, Spots.Spot, View.{Views, Visible, own_of, visible, with_view, desk_of, common_of, things_with}, declared.parts.{record.Record.Record, seat.Seat.Seat as Chair, sleeping.SleeperRecord.SleeperRecord, worker.Worker.Worker}}
 use Rattle.exec_invariants.specs.{Acting.{PerformsAll, StepsWith}, Sound.Sound, Works.{Beside, Suits, Same}}
 use Rattle.exec_polling.specs.{Calling.{CallBeside, CallSound, CallWorks, CallSuits, call_of, desk_of_caller, is_free}, declared.caller.Caller.Caller}
 use Rattle.exec_steps.specs.Together.{StandTogether}
@@ -66,6 +66,12 @@ module _ {B : Type 0} where
     pub together : StandTogether c.workers.items c.callers.items c.shared
     pub owned : (k : ℕ) (r : Record) → slice_get c.shared.requests.items k ≡ Some r → r.shown.worker < length c.workers.items
     pub asleep : (k : ℕ) (z : SleeperRecord) → slice_get c.shared.sleepers.items k ≡ Some z → z.shown.worker < length c.workers.items
+
+  -- Which steps may be taken can be asked of it, also once it is spent: it has as many seats as workers, and the bytes of each
+  -- direct read can be counted.
+  pub record CanBeAsked (c : Core B) : Type 0 where
+    pub seats : length c.workers.items ≡ length c.shared.seats.items
+    pub countable : (k : ℕ) (r : Record) → slice_get c.shared.requests.items k ≡ Some r → IsCountable r.shown.operation
 
   -- what is visible of each worker and each caller
   abbrev pub views : Core B → Views

@@ -7,7 +7,7 @@ ghost use Rattle.exec_machine.specs.{Callers.is_enabled, Progress.Plan};
 ghost use Rattle.exec_moves.specs.Plays.{Playing, first_playing};
 ghost use Rattle.exec_parts.specs.declared.parts.worker.Worker.{Worker as Party};
 ghost use Rattle.exec_invariants.specs.{Acting.PerformsAll, Sound.Sound, Whole.{IsWhole, Profile}};
-ghost use Rattle.exec_core.specs.{Configs.configuration_of as configuration_told, Lift.{world, Stands, IsReady, Shows, Applies, Calls, Carries, Keeps, Takes, IsPlanOf, IsAsBefore, WorkerSteps, WorkerStays, Sees, EndsPoll, Lands, may_take, may_work_in, may_land_in, may_call_in, may_go_on_in, has_begun}, Ranges.is_in_range, Steady.{IsPacedThere, IsSteadyThere}};
+ghost use Rattle.exec_core.specs.{Configs.configuration_of as configuration_told, Lift.{world, CanBeAsked, Stands, IsReady, Shows, Applies, Calls, Carries, Keeps, Takes, IsPlanOf, IsAsBefore, WorkerSteps, WorkerStays, Sees, EndsPoll, Lands, may_take, may_work_in, may_land_in, may_call_in, may_go_on_in, has_begun}, Ranges.is_in_range, Steady.{IsPacedThere, IsSteadyThere}};
 
 use crate::config::Config;
 use crate::setting_up::{configuration_of, first_shared, first_workers};
@@ -53,6 +53,7 @@ impl<B: Scripted + Drop> Core<B> {
             Shows B.left B.runs B.holds B.spot p core (first_playing p)) }
         ensures ready { IfOk result (λ core. (p : Plan) → IsPlanOf B.left B.runs B.holds B.spot p (configuration_told config.now iters_per_us files sockets) roots.items →
             IsReady B.left B.runs B.holds p core) }
+        ensures asked { IfOk result (λ core. CanBeAsked core) }
         ensures rests { OnOk result ((p : Plan) → IsPlanOf B.left B.runs B.holds B.spot p (configuration_told config.now iters_per_us files sockets) roots.items →
             IsSteadyThere p.config (first_playing p)) }
         ensures paced { OnOk result ((p : Plan) → IsPlanOf B.left B.runs B.holds B.spot p (configuration_told config.now iters_per_us files sockets) roots.items →
@@ -80,11 +81,11 @@ impl<B: Scripted + Drop> Core<B> {
         self.spent
     }
 
-    /// Whether the step may be taken. The caller must know that the executor isn't spent: of a spent one it is only known that
-    /// what can be seen of it is as before the step that got no memory.
+    /// Whether the step may be taken. It can be asked of each executor that `new` or `apply` left, also of a spent one, which
+    /// answers as before the step that got no memory.
     #[tactic(auto, using(crate::proofs::Enabling::enabled_as))]
     pub fn enabled(&self, action: Action) -> bool
-        requires stands { Stands self.now }
+        requires asked { CanBeAsked self.now }
         ensures enabled { (p : Plan) → result ≡ is_enabled (world B.left B.spot p self.now).common action }
     {
         self.may_take(action)
@@ -92,7 +93,7 @@ impl<B: Scripted + Drop> Core<B> {
 
     /// The same, by what is shared.
     fn may_take(&self, action: Action) -> bool
-        requires stands { Stands self.now }
+        requires asked { CanBeAsked self.now }
         ensures { result ≡ may_take self.now action }
     {
         match action {
@@ -158,7 +159,7 @@ impl<B: Scripted + Drop> Core<B> {
 
     /// Whether the kernel has the operation and may give this result.
     fn may_land(&self, request: usize, given: OpResult) -> bool
-        requires stands { Stands self.now }
+        requires asked { CanBeAsked self.now }
         ensures { result ≡ may_land_in (slice_get self.now.shared.requests.items request) given }
     {
         match self.shared.requests.get(request) {
@@ -182,6 +183,7 @@ impl<B: Scripted + Drop> Core<B> {
         ensures applies { IfOk result (λ line. (p : Plan) (x : Playing) → Shows B.left B.runs B.holds B.spot p self.old x → Carries B.left B.runs B.holds B.spot B.name_of p action body →
             Applies B.left B.runs B.holds B.spot p x action line self.new) }
         ensures ready { OnOk result ((p : Plan) → IsReady B.left B.runs B.holds p self.old → Carries B.left B.runs B.holds B.spot B.name_of p action body → IsReady B.left B.runs B.holds p self.new) }
+        ensures asked { CanBeAsked self.new }
         ensures wants { OnErr result ((p : Plan) → is_enabled (world B.left B.spot p self.old).common action ≡ true) }
         ensures same { OnErr result (IsAsBefore B.left B.spot self.old self.new) }
         ensures spent { OnErr result (self.new.spent ≡ true) }

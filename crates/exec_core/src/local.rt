@@ -14,28 +14,41 @@ use exec_parts::parts::seat::Seat;
 use exec_parts::parts::worker::Worker;
 use exec_ring::sim_ring::SimRing;
 use exec_task::runnable::Runnable;
+use exec_task::tasks::Tasks;
 use exec_waiters::waiter_id::WaiterId;
 use exec_words::queue::PureQueue;
 
-/// A worker as its tasks see it, with its seat. Ports `Local`.
+/// A worker as its tasks see it, with its seat and the task set of its pool. Ports `Local`.
 #[derive(Drop)]
 pub struct Local<'a> {
-    /// The worker.
-    pub worker: &'a mut Worker,
-    /// Its seat.
-    pub seat: &'a mut Seat,
-    /// How many workers its pool has.
-    pub workers: usize,
-    /// The identity of the task set of its pool.
-    pub tasks: u64,
+    worker: &'a mut Worker,
+    // Its own.
+    seat: &'a mut Seat,
+    // Those of its pool.
+    tasks: &'a Tasks<()>,
 }
 
 impl<'a> Local<'a> {
-    /// Whether it polls tasks of this set, and isn't closing. Ports `serves`.
-    pub fn serves(&self, owner: u64) -> bool
-        ensures { result ≡ is_pool self.now.worker.now.role && (self.now.tasks == owner) && not self.now.worker.now.home.closing }
+    /// This worker, as its tasks see it. The caller must lend the worker's own seat, and the task set that its pool shares.
+    pub fn new(worker: &'a mut Worker, seat: &'a mut Seat, tasks: &'a Tasks<()>) -> Self
+        ensures worker { result.worker.now ≡ worker.old }
+        ensures seat { result.seat.now ≡ seat.old }
+        ensures tasks { result.tasks.now ≡ tasks.now }
+        ensures same_worker { result.worker.ghost_name ≡ worker.entry.ghost_name }
+        ensures same_seat { result.seat.ghost_name ≡ seat.entry.ghost_name }
     {
-        self.worker.role.is_pool() && self.tasks == owner && !self.worker.home.closing
+        Local {
+            worker,
+            seat,
+            tasks,
+        }
+    }
+
+    /// Whether it polls tasks of the set of this identity, which is that of its pool, and isn't closing. Ports `serves`.
+    pub fn serves(&self, owner: u64) -> bool
+        ensures { result ≡ is_pool self.now.worker.now.role && (self.now.tasks.now.id == owner) && not self.now.worker.now.home.closing }
+    {
+        self.worker.role.is_pool() && self.tasks.id() == owner && !self.worker.home.closing
     }
 
     /// Which work it runs. Ports `role`.
@@ -47,9 +60,16 @@ impl<'a> Local<'a> {
 
     /// How many workers its pool has. Ports `workers`.
     pub fn workers(&self) -> usize
-        ensures { result ≡ self.now.workers }
+        ensures { result ≡ self.now.worker.now.workers }
     {
-        self.workers
+        self.worker.workers
+    }
+
+    /// Its requests and sleepers, what they leave to be told, and whether it closes.
+    pub fn home(&self) -> &Home<SimRing, Reply, Reply>
+        ensures { result.now ≡ self.now.worker.now.home }
+    {
+        &self.worker.home
     }
 
     /// Its run queue. Ports `ready`.
@@ -68,7 +88,7 @@ impl<'a> Local<'a> {
         ensures worker { self.new.worker.now ≡ self.old.worker.now }
         ensures same_seat { self.new.seat.ghost_name ≡ self.old.seat.ghost_name }
         ensures same_worker { self.new.worker.ghost_name ≡ self.old.worker.ghost_name }
-        ensures pool { (self.new.workers ≡ self.old.workers) × (self.new.tasks ≡ self.old.tasks) }
+        ensures tasks { self.new.tasks ≡ self.old.tasks }
     {
         self.seat.queue.push_fitting(runnable);
     }
@@ -84,7 +104,7 @@ impl<'a> Local<'a> {
         ensures seat { self.new.seat.now ≡ self.old.seat.now }
         ensures same_seat { self.new.seat.ghost_name ≡ self.old.seat.ghost_name }
         ensures same_worker { self.new.worker.ghost_name ≡ self.old.worker.ghost_name }
-        ensures pool { (self.new.workers ≡ self.old.workers) × (self.new.tasks ≡ self.old.tasks) }
+        ensures tasks { self.new.tasks ≡ self.old.tasks }
     {
         let_go_of(&mut self.worker.home, id);
     }

@@ -8,28 +8,28 @@ use Rattle.exec_moves.specs.{Call.{CallDesk, Called}, Claim.{same_bools}, Global
 use Rattle.exec_moves.specs.declared.handing.CallPlace.TheVariants as call
 use Rattle.exec_moves.specs.declared.handing.InGlobal.TheVariants as global
 use Rattle.exec_moves.specs.declared.handing.InSignal.TheVariants as signals
-use Rattle.exec_credit.specs.CallCredit.{call_credit, claim_credit, look_credit}
+use Rattle.exec_credit.specs.CallCredit.{call_credit, claim_worker, load_set, most_credit}
 
 pub same_self : (xs : List Bool) → same_bools xs xs ≡ true
 same_self [] = refl
 same_self (true ∷ xs) = same_self xs
 same_self (false ∷ xs) = same_self xs
 
-look_most : (some : Bool) → look_credit some ≤ 5
-look_most true = omega arith
-look_most false = omega arith
+load_most : (some : Bool) → load_set some ≤ load_set true
+load_most true = omega arith
+load_most false = omega arith
 
-claim_most : (some same : Bool) → claim_credit some same ≤ 4
+claim_most : (some same : Bool) → claim_worker some same ≤ claim_worker true false
 claim_most true true = omega arith
 claim_most true false = omega arith
 claim_most false same = omega arith
 
-pub at_most : (p : CallPlace) (x : Idle) → call_credit p x ≤ 6
+pub at_most : (p : CallPlace) (x : Idle) → call_credit p x ≤ most_credit
 at_most call.Nothing x = omega arith
-at_most (call.Global global.Append) x = let it = look_most (has_any x) in omega (arith, it)
-at_most (call.Global global.LoadGlobalSet) x = let it = look_most (has_any x) in omega (arith, it)
+at_most (call.Global global.Append) x = let it = load_most (has_any x) in omega (arith, it)
+at_most (call.Global global.LoadGlobalSet) x = let it = load_most (has_any x) in omega (arith, it)
 at_most (call.Global (global.AddGlobalCount set)) x = let it = claim_most (has_any x) (same_bools set.has x.published) in omega (arith, it)
-at_most (call.Global global.ReturnGlobalCount) x = let it = look_most (has_any x) in omega (arith, it)
+at_most (call.Global global.ReturnGlobalCount) x = let it = load_most (has_any x) in omega (arith, it)
 at_most (call.ClaimWorker set) x = let it = claim_most (has_any x) (same_bools set.has x.published) in omega (arith, it)
 at_most (call.Signal signals.SetLatch j) x = omega arith
 at_most (call.Signal (signals.Raise ring) j) x = omega arith

@@ -6,22 +6,50 @@ use Rattle.std.specs.Prelude.{ℕ, suc, Bool, true, false}
 use Rattle.exec_words.specs.Idle.{Idle}
 use Rattle.exec_moves.specs.{declared.handing.{CallPlace.CallPlace, InGlobal.InGlobal, InSignal.InSignal}, Claim.same_bools, Global.has_any}
 
--- about to load the set, in which somebody is, or nobody
-abbrev pub look_credit : Bool → ℕ
-look_credit true = 5
-look_credit false = 1
+-- HEIGHTS: what a step leads to stands one below it, down to the return, which isn't quiet.
 
--- about to claim: somebody is in the set, and it is as it was loaded
-abbrev pub claim_credit : Bool → Bool → ℕ
-claim_credit true false = 4
-claim_credit some same = 3
+abbrev pub raise : ℕ
+raise = suc 0
 
+abbrev pub set_latch : ℕ
+set_latch = suc raise
+
+-- of a set in which nobody is, which leads to the return
+abbrev pub load_no_set : ℕ
+load_no_set = suc 0
+
+-- By whether somebody is in the set, who is signalled then, and whether it is as it was loaded, since else it is claimed from once
+-- more. Where nobody is the count is returned.
+abbrev pub claim_worker : Bool → Bool → ℕ
+claim_worker true true = suc set_latch
+claim_worker true false = suc (suc set_latch)
+claim_worker false same = suc (suc load_no_set)
+
+abbrev pub add_count : Bool → Bool → ℕ
+add_count some same = suc (claim_worker some same)
+
+-- a set in which somebody is, or nobody
+abbrev pub load_set : Bool → ℕ
+load_set true = suc (add_count true true)
+load_set false = load_no_set
+
+abbrev pub return_count : Bool → ℕ
+return_count some = suc (load_set some)
+
+abbrev pub append : Bool → ℕ
+append some = suc (load_set some)
+
+-- WHAT A CALL HAS LEFT, at its place and with this idle set
 abbrev pub call_credit : CallPlace → Idle → ℕ
-call_credit (CallPlace.Global InGlobal.Append) x = suc (look_credit (has_any x))
-call_credit (CallPlace.Global InGlobal.LoadGlobalSet) x = look_credit (has_any x)
-call_credit (CallPlace.Global (InGlobal.AddGlobalCount set)) x = suc (claim_credit (has_any x) (same_bools set.has x.published))
-call_credit (CallPlace.Global InGlobal.ReturnGlobalCount) x = suc (look_credit (has_any x))
-call_credit (CallPlace.ClaimWorker set) x = claim_credit (has_any x) (same_bools set.has x.published)
-call_credit (CallPlace.Signal InSignal.SetLatch j) x = 2
-call_credit (CallPlace.Signal (InSignal.Raise ring) j) x = 1
+call_credit (CallPlace.Global InGlobal.Append) x = append (has_any x)
+call_credit (CallPlace.Global InGlobal.LoadGlobalSet) x = load_set (has_any x)
+call_credit (CallPlace.Global (InGlobal.AddGlobalCount set)) x = add_count (has_any x) (same_bools set.has x.published)
+call_credit (CallPlace.Global InGlobal.ReturnGlobalCount) x = return_count (has_any x)
+call_credit (CallPlace.ClaimWorker set) x = claim_worker (has_any x) (same_bools set.has x.published)
+call_credit (CallPlace.Signal InSignal.SetLatch j) x = set_latch
+call_credit (CallPlace.Signal (InSignal.Raise ring) j) x = raise
 call_credit _ x = 0
+
+-- the most that there is: before anything is appended, where somebody is in the set
+abbrev pub most_credit : ℕ
+most_credit = append true

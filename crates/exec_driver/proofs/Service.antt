@@ -5,7 +5,7 @@ use Rattle.std.specs.Option.{IfSome, IfNone, SomeIff}
 use Rattle.std.proofs.lemmas.Bool.{false≢true}
 use Rattle.exec_time.specs.Turning.{advanced}
 use Rattle.exec_waiters.specs.{States.file_of, Told.Tells, declared.{deferred.Deferred.Deferred, waiter.Waiter.Waiter, waiter_id.WaiterId.WaiterId}}
-use Rattle.exec_driver.specs.{Driving.{Driving, request_at, is_full, may_stage_one, has_pending}, Examples.idle, Placed.Says, Service.{permit_by, Repeats, NoStep, OneMore, Passes, reached, ExpiresOne, EnrolsOne, GrantsAt, Turn, NoTurn, StagesEntry, StagesOneEntry, Cancel, Request, WakePoll, Staged, Parks, Refused, Waited, NoGate, ServesInOrder, entered_if}, Steps.{Grants, Enrols, StagesOne, is_turn_of, expired, told_by_cancel, cancel_staged, poll_staged, with_landings}, declared.driver.{staging.Granted.Granted, timing.Enrolled.Enrolled}, Turns.{made_way, may_wait}}
+use Rattle.exec_driver.specs.{Driving.{Driving, request_at, is_full, may_stage_one, has_pending}, Examples.idle, Placed.Says, Service.{permit_by, Repeats, NoStep, OneMore, Passes, reached, ExpiresOne, EnrolsOne, GrantsAt, Turn, NoTurn, StagesEntry, StagesOneEntry, Cancel, Request, WakePoll, Staged, Parks, Refused, Waited, NoGate, ServesInOrder, entered_if}, Steps.{Grants, Enrols, StagesOne, is_turn_of, expired, told_by_cancel, cancel_staged, poll_staged, with_landings}, declared.driver.{staging.Granted.Granted, timing.Enrolled.Enrolled}, Turns.{made_way, may_wait, finds_busy}}
 use Rattle.exec_lists.specs.Lists.{has_first, first_of}
 use Rattle.exec_opens.specs.Opens.{OpenState, account_in, holder_at}
 use Rattle.exec_driver.proofs.{Turns.{no_first, none_staged, way_may}, Words.{cases_Bool, and_parts, and_from}}
@@ -37,8 +37,15 @@ may_poll = grind arith
 pub signal_left : (signal may : Bool) → may ≡ false → signal ≡ (signal && not may)
 signal_left = grind arith
 
-pub signal_out : (old set new may calm caught : Bool) → may ≡ true → calm ≡ (not old && caught) → set ≡ old → new ≡ (set && calm) → new ≡ (old && not may)
+pub signal_out : (old set new may calm caught waits busy : Bool) → may ≡ true → calm ≡ (not old && caught) → set ≡ old → waits ≡ (calm && not busy) → new ≡ (set && waits) → new ≡ (old && not may)
 signal_out = grind arith
+
+-- a worker waits where its word is calm and the kernel isn't busy
+pub waits_by : (waits calm is busy found : Bool) → waits ≡ (calm && not busy) → calm ≡ is → busy ≡ found → waits ≡ (is && not found)
+waits_by = grind arith
+
+pub waits_so : (waits calm busy : Bool) → waits ≡ (calm && not busy) → waits ≡ true → (calm ≡ true) × (busy ≡ false)
+waits_so = grind arith
 
 -- the open whose permit is given up after a grant
 abbrev pub permit_granted : ℕ → Option Granted → Option ℕ
@@ -90,6 +97,13 @@ module _ {S F : Type 0} where
 
   pub may_after : (d e : Driving S F) → e ≡ with_landings e (made_way d) → has_pending e ≡ false → (e.armed || not (is_full e)) ≡ true → may_wait d ≡ true
   may_after d e way calls room = way_may d e way ∙ and_from _ _ (ap not calls) room
+
+  -- a wait finds the kernel as it is once a full queue was entered
+  pub busy_found : (d e f : Driving S F) → e ≡ with_landings e (made_way d) → f ≡ with_landings f (cond e.armed e (cond (is_full e) e (poll_staged e))) → f.ring.busy ≡ finds_busy d
+  busy_found d e f way polls = out (is_full e) e.armed polls ∙ ap (λ (x : Driving S F). x.ring.busy) way
+    where
+      out : (full armed : Bool) → f ≡ with_landings f (cond armed e (cond full e (poll_staged e))) → f.ring.busy ≡ e.ring.busy
+      out = grind arith
 
   pub pending_refused : (calm : Bool) (d e : Driving S F) → Says d → e ≡ with_landings e (made_way d) → has_pending e ≡ true → Says e → Parks calm d e
   pending_refused calm d e first way pending says = Refused first (way_may d e way ∙ ap (λ (b : Bool). not b && (e.armed || not (is_full e))) pending) way says

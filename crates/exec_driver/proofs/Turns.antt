@@ -11,7 +11,7 @@ use Rattle.exec_request.specs.{States.{asks_cancel}, declared.results.WaiterStat
 use Rattle.exec_ring.specs.{Completions.{result_in}, Kernels.{is_quiet, has_none, next_completion, next_in, posted_left, wakes_left, reaped}, declared.completion.{Completion.Completion, Posted.Posted}}
 use Rattle.exec_waiters.specs.{Events.{cancelled, with_permit}, States.{waiter_at, flying_count, tick_in, file_of, gate_in}, Told.Tells, declared.{deferred.Deferred.Deferred, waiter.{Waiter.Waiter, Entry.{Entry, TheVariants.Pending}}, waiter_id.WaiterId.WaiterId}}
 use Rattle.exec_waiters.proofs.Changes.{one_if}
-use Rattle.exec_driver.specs.{Driving.{Driving, request_at, is_enrolled, is_queued, is_full, may_stage_one, has_pending}, Sound.IsSound, Steps.{noted, swept, swept_from, taken_out, queued_or_ended, permitted, ReapsNext, completed_in, lawful_of, if_lawful, expired, told_by_cancel, timed_out, cancelling, ended, Grants, StagesOne, with_staged, poll_staged, entered, lower, lowest_gate}, Turns.{Serves, StaysDone, waiting, unreaped, unstaged, made_way, may_wait}, declared.driver.{reaping.Reaped.Reaped, staging.Granted.Granted}}
+use Rattle.exec_driver.specs.{Driving.{Driving, request_at, is_enrolled, is_queued, is_full, may_stage_one, has_pending}, Sound.IsSound, Steps.{noted, swept, swept_from, taken_out, queued_or_ended, permitted, ReapsNext, completed_in, lawful_of, if_lawful, expired, told_by_cancel, timed_out, cancelling, ended, Grants, StagesOne, with_staged, entered, lower, lowest_gate}, Turns.{Serves, StaysDone, waiting, unreaped, unstaged, made_way, may_wait}, declared.driver.{reaping.Reaped.Reaped, staging.Granted.Granted}}
 use Rattle.exec_lists.specs.Lists.{has_first, first_of, rest_of, without, after_due, after_queued}
 use Rattle.exec_opens.specs.Opens.{OpenState, account_in}
 use Rattle.exec_driver.proofs.Coming.{is_itself}
@@ -197,9 +197,6 @@ module _ {S F : Type 0} where
   pub stage_none : (d e f : Driving S F) (o p : Option WaiterId) (account : Waiter S F → Option Account) → is_none o ≡ true → o ≡ first_of d.lists.cancels → IfNone o (e ≡ d) → (has_first d.lists.cancels || may_stage_one d) ≡ true → IsSound d → p ≡ first_of e.lists.queued → IfSome p (λ id. (w : Waiter S F) → request_at e id ≡ Some w → StagesOne e f id w (account w)) → Stages d f × (unstaged f < unstaged d)
   stage_none = grind (arith, none_staged, stage_any)
 
-  pub poll_any : (d d' : Driving S F) → d' ≡ record (cond d.armed d (cond (is_full d) d (poll_staged d))) { landings = d'.landings } → Stages d d'
-  poll_any = grind arith
-
   -- an enter stages nothing, and leaves an empty queue unless the kernel is busy
   pub enter_any : (d d' : Driving S F) → d' ≡ record (entered d) { landings = d'.landings } → Stages d d' × IsEntered d.ring d'.ring
   enter_any = grind (arith, enters, eases_is, eases_ring)
@@ -228,16 +225,9 @@ module _ {S F : Type 0} where
   armed_entered true d = refl
   armed_entered false d = refl
 
-  free_entered : (b : Bool) (d : Driving S F) → d.ring.busy ≡ false → (cond b (entered d) d).ring.busy ≡ false
-  free_entered true d free = (enters d.landings d.ring).free
-  free_entered false d free = free
-
   -- a queue that is entered where it is full leaves as much pending
   pub way_may : (d d' : Driving S F) → d' ≡ record (made_way d) { landings = d'.landings } → may_wait d ≡ (not (has_pending d') && (d'.armed || not (is_full d')))
   way_may = grind (arith, pending_entered, armed_entered)
-
-  pub way_free : (d d' : Driving S F) → d' ≡ record (made_way d) { landings = d'.landings } → d.ring.busy ≡ false → d'.ring.busy ≡ false
-  way_free d d' is free = ap (λ (e : Driving S F). e.ring.busy) is ∙ free_entered (is_full d) d free
 
   pub wait_pending : (d d' : Driving S F) (x : Bool) → d' ≡ record (made_way d) { landings = d'.landings } → has_pending d' ≡ true → false ≡ (may_wait d && x)
   wait_pending d d' x is pending = sym (ap (λ (b : Bool). b && x) (way_may d d' is ∙ ap (λ (b : Bool). not b && (d'.armed || not (is_full d'))) pending))

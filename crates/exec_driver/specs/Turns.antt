@@ -52,6 +52,10 @@ module _ {S F : Type 0} where
   abbrev pub may_wait : Driving S F → Bool
   may_wait d = not (has_pending d) && (d.armed || not (is_full (made_way d)))
 
+  -- the kernel is busy when it is let work, and takes nothing in
+  abbrev pub finds_busy : Driving S F → Bool
+  finds_busy d = (made_way d).ring.busy
+
   -- the kernel has all that was staged
   abbrev pub is_taken : Driving S F → Bool
   is_taken d = length d.ring.staged == 0

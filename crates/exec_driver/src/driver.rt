@@ -103,8 +103,8 @@ impl<R: Ring, S, F> Model for Driver<R, S, F> {
 }
 
 impl<R: Ring + Drop, S: Drop, F: Drop> Driver<R, S, F> {
-    /// A driver without requests, over a ring in which nothing happened. No deadline may be further ahead than
-    /// `horizon`, and each is rounded up to a `tick` from the moment `now` on; the caller must have a layout that
+    /// A driver without requests, over this ring. No deadline may be further ahead than `horizon`, and each is rounded up
+    /// to a `tick` from the moment `now` on. The caller must have a ring in which nothing happened, and a layout that
     /// `TimeoutWheel::validate_layout` takes. Err with the ring only for want of memory. The store stays as it is.
     pub fn new(
         alloc: Global,

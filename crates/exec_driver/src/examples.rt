@@ -8,7 +8,7 @@ ghost use Rattle.exec_request.specs.declared.output.RequestOutput.TheVariants as
 ghost use Rattle.exec_ring.specs.Completions.{acknowledged, wake_completion, completed};
 ghost use Rattle.exec_outcomes.specs.declared.outcome.OpResult.TheVariants.{Count, Errno};
 ghost use Rattle.exec_waiters.specs.{Examples.{poll, sync}, declared.{waiter.Entry.TheVariants.{Ready}, deferred.Deferred.Deferred}};
-ghost use Rattle.exec_driver.specs.{Driving.may_stage_one, Steps.{cancelled_at, let_go, cancel_staged, cancel_entry, poll_staged, entered, noted, completed_in, is_control, is_turn_of, tick_for, lowest_gate}, Service.{ServesInOrder, reached}, Turns.{may_wait, is_taken, is_calm}, Examples.{first, wheel, idle, with_one, flying}};
+ghost use Rattle.exec_driver.specs.{Driving.may_stage_one, Steps.{cancelled_at, let_go, cancel_staged, cancel_entry, poll_staged, entered, noted, completed_in, is_control, is_turn_of, tick_for, lowest_gate}, Service.{ServesInOrder, reached}, Turns.{may_wait, finds_busy, is_taken, is_calm}, Examples.{first, wheel, idle, with_one, flying}};
 ghost use Rattle.exec_lists.specs.Lists.{no_lists};
 
 /// Admission: a poll is queued and its deadline to be enrolled, one whose deadline has come is over, and a sync waits
@@ -61,8 +61,8 @@ pub fn deadlines()
     ensures beyond { tick_for wheel 21 6 ≡ Err (error.Io cause.InvalidInput) }
 {}
 
-/// When a worker may wait: nothing is to be submitted, the wake poll is out or has room, and its word is calm. It sleeps
-/// once the kernel has what was staged.
+/// When a worker may wait: nothing is to be submitted, the wake poll is out or has room, its word is calm, and the kernel
+/// isn't busy, which is so only once where a full queue is entered first. It sleeps once the kernel has what was staged.
 pub fn waits()
     ensures idle { may_wait idle ≡ true }
     ensures pending { may_wait (with_one poll 0) ≡ false }
@@ -71,6 +71,9 @@ pub fn waits()
     ensures calm { is_calm false true ≡ true }
     ensures signalled { is_calm true true ≡ false }
     ensures another_batch { is_calm false false ≡ false }
+    ensures free { finds_busy idle ≡ false }
+    ensures busy { finds_busy (record idle { ring = record idle.ring { busy = true } }) ≡ true }
+    ensures busy_before { finds_busy (record idle { ring = record idle.ring { size = 0; busy = true } }) ≡ false }
     ensures staged { is_taken (poll_staged idle) ≡ false }
     ensures taken { is_taken (entered (poll_staged idle)) ≡ true }
 {}

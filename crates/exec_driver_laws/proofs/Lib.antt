@@ -11,10 +11,13 @@ pub mod Uncancelled
 pub mod Failing
 pub mod Lasting
 pub mod Giving
+pub mod Outputs
+pub mod Staying
 pub mod Onward
 pub mod Once
 pub mod Telling
 pub mod Holding
+pub mod Joining
 pub mod Synced
 pub mod Serving
 pub mod OwningCalls

@@ -4,7 +4,7 @@ use Rattle.std.specs.Prelude.{IsSomeAnd}
 use Rattle.std.proofs.lemmas.List.Elements.{All-nil}
 use Rattle.exec_base.specs.declared.error.Error.TheVariants.{Timeout}
 use Rattle.exec_outcomes.specs.Accounts.{fresh_account}
-use Rattle.exec_waiters.specs.{Examples.{sync, here}, Told.Tells}
+use Rattle.exec_waiters.specs.{Examples.{sync, here}, Told.Tells, declared.waiter.Entry.TheVariants.Ready}
 use Rattle.exec_opens.specs.Opens.{fresh_open, joined, keeping}
 use Rattle.exec_driver.specs.{Driving.{Driving, is_gated}, Examples.{first, idle, with_one}, Placed.Says, Steps.{Grants, GrantsAs, newcomer}, declared.driver.staging.Granted.{Granted}}
 use Rattle.exec_driver.proofs.Words.{Deferred, Waiter, WaiterId, eqb_tells, false≢true, is_among, is_some, request_at, tick_in}
@@ -13,10 +13,10 @@ use Rattle.exec_lists.proofs.Names.{same_tells}
 use Rattle.exec_request.specs.Requests.{gate_of}
 use Rattle.exec_request.specs.declared.output.RequestOutput.TheVariants as output
 use Rattle.exec_driver_laws.specs.{Ends.{TellsNoSuccess, ending_sent}, Examples.{fresh_gates, no_requests, spoiled, workers}, Lines.KeepsLine}
-use Rattle.exec_driver_laws.specs.Runs.{misplaced, back, clean, clean_gates, clean_told, healing, occupied, kept_output, of_worker, ready, sent, to_leave, two}
+use Rattle.exec_driver_laws.specs.Runs.{misplaced, back, clean, clean_gates, clean_told, healing, occupied, kept_output, of_worker, ready, reserved, sent, to_leave, two}
 use Rattle.exec_driver_laws.specs.Owning.{operations_in}
-use Rattle.exec_driver_laws.specs.Sharing.{Admit, AreFresh, Call, CallsOne, FailsFrom, Gates, Grant, IsRun, Join, Leave, LineUp, Other, SetAccount, end_by, key_of, passed_on, sets_account_of}
-use Rattle.exec_driver_laws.proofs.{Failing.fails_on, Lasting.ends_told, Holding.holds_on, Once.stays_gone, Workers.says}
+use Rattle.exec_driver_laws.specs.Sharing.{Admit, AreFresh, Call, CallsOne, FailsFrom, Gates, Grant, IsRun, Join, Leave, LineUp, Other, SetAccount, StandsAt, end_by, key_of, lets_out, passed_on, sets_account_of}
+use Rattle.exec_driver_laws.proofs.{Failing.fails_on, Lasting.ends_told, Holding.holds_on, Joining.stands_on, Once.stays_gone, Staying.stays, Workers.says}
 
 one_there : (id : WaiterId) (w : Waiter ℕ ℕ) → request_at (with_one sync 0) id ≡ Some w → newcomer sync here ≡ w
 one_there = grind arith
@@ -178,3 +178,15 @@ not_joined keeps = let none : Some (key_of 3 first) ≡ None = keeps.holder in c
 
 pub not_keeping : KeepsLine fresh_open (keeping spoiled fresh_open) → ⊥
 not_keeping keeps = let none : Some Timeout ≡ None = keeps.failure in cc
+
+-- WHO STANDS IN A LINE, AND WHOSE OUTPUT IS KEPT
+
+pub not_reserved : StandsAt reserved.opens 1 (key_of 3 first) → ⊥
+not_reserved (inl holds) = cc
+not_reserved (inr waits) = let within = waits.1 in omega (arith, within)
+
+pub not_dropped : (worker : ℕ) → Call worker (with_one sync 0) (with_one sync 0) occupied reserved → ⊥
+not_dropped worker call = not_reserved (stands_on worker _ _ occupied reserved call (λ k gate leaves. absurd (cc (leaves))) 1 (key_of 3 first) (λ leaves. cc (leaves)) (inl refl))
+
+pub not_lost : (worker : ℕ) (g g' : Gates) (call : Call worker ready idle g g') → lets_out call ≢ Some first → ⊥
+not_lost worker g g' call other = let none : None ≡ Some (Ready (output.Sync (Ok tt))) = stays worker _ _ g g' call first (output.Sync (Ok tt)) other refl in cc

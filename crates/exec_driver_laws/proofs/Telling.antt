@@ -42,10 +42,10 @@ module _ {S F : Type 0} where
       }
 
   -- what stands under the name of a request that is over
-  kept_there : (s : Slab (Entry S F)) (id : Id) (was is : Entry S F) → value_at s id ≡ Some was → value_at (written s id is) id ≡ Some is
+  pub kept_there : (s : Slab (Entry S F)) (id : Id) (was is : Entry S F) → value_at s id ≡ Some was → value_at (written s id is) id ≡ Some is
   kept_there s id was is at = (Updates-write s id is (rw at refl)).changed
 
-  gone_there : (s : Slab (Entry S F)) (id : Id) (was : Entry S F) → value_at s id ≡ Some was → value_at (removed s id) id ≡ None
+  pub gone_there : (s : Slab (Entry S F)) (id : Id) (was : Entry S F) → value_at s id ≡ Some was → value_at (removed s id) id ≡ None
   gone_there s id was at =
       let there = at_by s id was at in
       (Updates-free s (removed s id) id was (Changed-set s (removed s id) id.index (freed id.generation) refl refl there.within) there.slot).changed

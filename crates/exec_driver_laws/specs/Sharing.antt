@@ -10,7 +10,7 @@ use Rattle.exec_driver.specs.{Admission.Admits, Driving.{Driving, request_at}, P
 use Rattle.exec_driver.specs.{Service.permit_by, Steps.{let_go, expired, EnrolsAs, Grants, StagesOne, LandsOne, ReapsNext}, declared.driver.{reaping.Reaped.Reaped, staging.Granted.Granted}}
 use Rattle.exec_driver_laws.specs.{Laws.{ShareGates, failure_at}, Lawful.EndsLawfully, Lines.KeepsLine, Owning.{HasNoOperation, KeepsOperations}, Waiting.KeepsPlaces}
 use Rattle.exec_lists.specs.Lists.{first_of}
-use Rattle.exec_opens.specs.{Opens.{OpenState, fresh_open, open_at, holder_at, with_open, with_named, with_account, joined, passed}, declared.opens.WaiterKey.WaiterKey}
+use Rattle.exec_opens.specs.{Opens.{OpenState, fresh_open, open_at, open_named, holder_at, with_open, with_named, with_account, joined, passed}, declared.opens.WaiterKey.WaiterKey}
 
 -- it has the permit of an open, or waits for it
 abbrev pub StandsIn : WaiterKey → Option OpenState → Type 0
@@ -103,6 +103,18 @@ module _ {S F : Type 0} where
   abbrev pub end_by_reap : {worker : ℕ} {old new : Driving S F} {g g' : Gates} → Call worker old new g g' → Option (WaiterKey × Ended)
   end_by_reap {worker} (Reap before after told reaps leaving) = end_told worker told
   end_by_reap call = None
+
+  -- of which request somebody looks for the output, has it sent, or lets it go
+  abbrev pub lets_out : {worker : ℕ} {old new : Driving S F} {g g' : Gates} → Call worker old new g g' → Option WaiterId
+  lets_out (Observe id is same) = Some id
+  lets_out (Forward id sender is same) = Some id
+  lets_out (Orphan id is same) = Some id
+  lets_out call = None
+
+  -- which request has joined the line of its open
+  abbrev pub joined_by : {worker : ℕ} {old new : Driving S F} {g g' : Gates} → Call worker old new g g' → Option WaiterKey
+  joined_by {worker} {old} {g = g} (Join id fits same is) = option_map (λ o. key_of worker id) (open_named g.opens (gate_in (request_at old id)))
+  joined_by call = None
 
   -- the open of which the caller says itself what is kept
   abbrev pub sets_account_of : {worker : ℕ} {old new : Driving S F} {g g' : Gates} → Call worker old new g g' → Option ℕ

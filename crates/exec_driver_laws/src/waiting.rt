@@ -7,9 +7,9 @@ ghost use Rattle.exec_driver_laws.specs.{OwningExamples.{its_entry, polling}, Sh
 ghost use Rattle.exec_lists.specs.Lists.{no_lists, with_due, with_enrolment, with_gated, with_queued};
 
 /// No request is forgotten. At each moment of a run, each that isn't over is to be staged or waits at its gate, and stands
-/// in the list of it; or it has an operation under way, which its ring has, once, be it staged, under way or completed. A
-/// deadline that has no tick in the wheel is to be enrolled, and stands in the list of these, unless the cancel of its
-/// request was asked for.
+/// in its driver's list of these (in the line of its open from when it joined: `who_joined_stands_in_line`); or it has an
+/// operation under way, which its ring has, once, be it staged, under way or completed. A deadline that has no tick in the
+/// wheel is to be enrolled, and stands in the list of these, unless the cancel of its request was asked for.
 pub fn no_request_is_forgotten<S, F>()
     ensures kept { (drivers drivers' : ℕ → Driving S F) (gates gates' : Gates) → CallsOne drivers drivers' gates gates' → ((i : ℕ) → Says (drivers i)) → ((i : ℕ) → ArePlaced (drivers i)) → (i : ℕ) → ArePlaced (drivers' i) }
     ensures kept_timed { (drivers drivers' : ℕ → Driving S F) (gates gates' : Gates) → CallsOne drivers drivers' gates gates' → ((i : ℕ) → AreTimed (drivers i)) → (i : ℕ) → AreTimed (drivers' i) }

@@ -1,10 +1,10 @@
-//! Each small call once, with ample memory, calls that come too late, and an admission for which memory is wanting.
+//! Each small call once, with ample memory, calls that come too late, and an admission for which memory may be wanting.
 //! What has to come of them is what the rules of requests, of opens and of the ring say, but for one row that says so.
 
 ghost use Rattle.std.specs.Prelude.{◌<◌, IfSome};
 ghost use Rattle.exec_opens.specs.Opens.{open_at};
 
-use crate::asks::Ask;
+use crate::asks::{Ask, request};
 use crate::found::{
     demand, holds, same, same_count, same_counts, same_key, same_name, same_number,
 };
@@ -18,6 +18,7 @@ use exec_driver::home::Home;
 use exec_opens::opens::{Opens, WaiterKey};
 use exec_outcomes::outcome::OpResult;
 use exec_outcomes::outcome::OpResult::{Count, Errno};
+use exec_request::open_record::OpenRecord;
 use exec_request::window::{Opcode, Window};
 use exec_ring::completion::{CANCEL_USER_DATA, Completion};
 use exec_ring::landing::Unlawful;
@@ -25,9 +26,12 @@ use exec_ring::ring::{Entered, Ring};
 use exec_ring::sim_ring::SimRing;
 use exec_ring::store::Store;
 use exec_waiters::deferred::Deferred;
+use exec_waiters::observer::Observer;
 use exec_waiters::waiter_id::WaiterId;
 use std::alloc::Global;
 use std::process::Abort;
+
+type Watch = Observer<u32, u32>;
 
 /// The first request is on the wheel.
 const ENROLLED: Enrolled = Enrolled {
@@ -152,10 +156,16 @@ fn opens_have_records(rt: HostRuntime) {
     let mut opens = Opens::new(rt.alloc(), 2).expect(&rt, "no memory");
     same_count(&rt, 0, opens.len(), 2);
     opens.begin_write(Some(1));
-    let account = opens.account(Some(1));
-    holds(&rt, 1, account.is_some());
-    holds(&rt, 2, opens.account(Some(2)).is_none());
-    opens.set_account(Some(0), account);
+    let mut written = OpenRecord::new();
+    written.write();
+    holds(&rt, 1, written.is_dirty());
+    same(&rt, 2, &opens.account(Some(1)), &Some(written));
+    same(&rt, 3, &opens.account(Some(0)), &Some(OpenRecord::new()));
+    holds(&rt, 4, opens.account(Some(2)).is_none());
+    opens.set_account(Some(0), Some(written));
+    same(&rt, 5, &opens.account(Some(0)), &Some(written));
+    opens.set_account(Some(1), None);
+    holds(&rt, 6, opens.account(Some(1)).is_none());
     drop(opens);
 }
 
@@ -243,7 +253,23 @@ fn a_store_has_the_room_that_was_made(rt: HostRuntime) {
     demand(&rt, store.reserve(alloc, window).is_ok(), "no memory");
     holds(&rt, 2, store.has_room(window, 10));
     holds(&rt, 3, !store.has_room(window, 11));
+    store.release(window);
+    holds(&rt, 4, !store.has_room(window, 1));
     drop(store);
+}
+
+#[test]
+fn an_outcome_alone_is_sent_of_a_sync(rt: HostRuntime) {
+    let sync = request(&rt, rt.alloc(), Ask::Sync(0));
+    let send = request(&rt, rt.alloc(), Ask::Send);
+    let (alone, whole) = (Watch::DetachedSync(5), Watch::Forwarded(9));
+    holds(&rt, 0, alone.suits(&sync));
+    holds(&rt, 1, !alone.suits(&send));
+    holds(&rt, 2, whole.suits(&send));
+    drop(alone);
+    drop(whole);
+    drop(sync);
+    drop(send);
 }
 
 #[test]
@@ -287,10 +313,10 @@ fn admit_again(
     same_counts(rt, 2, ours.counts(), (0, 0, 0, 0, 0));
 }
 
-/// An admission for which memory is wanting leaves the worker as it was, and the next one is made. Say
-/// `rt try --test --fail-alloc N` with N from 7 to 23: those are the allocations of the first admission.
+/// With ample memory this is one admission. By hand it is one for which memory is wanting, which leaves the worker as it
+/// was, and the next one: say `rt try --test --fail-alloc N` with N from 7 to 23, the allocations of the first.
 #[test]
-fn a_refused_admission_leaves_nothing(rt: HostRuntime) {
+fn a_send_is_admitted_or_tried_again(rt: HostRuntime) {
     let alloc = rt.alloc();
     let mut store = Store::new(alloc);
     let Ok(mut opens) = Opens::new(alloc, 1) else {

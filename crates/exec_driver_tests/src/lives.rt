@@ -148,20 +148,23 @@ fn a_worker_waits_on_its_ring(rt: HostRuntime) {
     play(&rt, rt.alloc(), 4, WAITING);
 }
 
-/// A worker whose kernel has not taken in what was staged.
-const ONLY_STAGED: &[Step] = &[
+/// A worker whose kernel is busy before it took in what was staged, and then once more.
+const BUSY: &[Step] = &[
     Step::Wait(Wait::Admit(Ask::Poll(None), FIRST)),
     Step::Turn(Turn::Serve((0, 0, true), true)),
     Step::Turn(Turn::Busy),
-    Step::Turn(Turn::Park(true, true)),
+    Step::Turn(Turn::Park(true, false)),
     Step::Look(Look::MaySleep(3, None, false)),
-    Step::Turn(Turn::Enter(Entered::Taken(2))),
+    Step::Turn(Turn::Park(true, true)),
     Step::Look(Look::MaySleep(3, None, true)),
+    Step::Turn(Turn::Busy),
+    Step::Turn(Turn::Park(true, false)),
+    Step::Turn(Turn::Park(true, true)),
 ];
 
 #[test]
-fn nobody_sleeps_on_what_is_only_staged(rt: HostRuntime) {
-    play(&rt, rt.alloc(), 4, ONLY_STAGED);
+fn nobody_waits_where_the_kernel_was_busy(rt: HostRuntime) {
+    play(&rt, rt.alloc(), 4, BUSY);
 }
 
 /// A worker whose ring has no room for the wake poll at first.
@@ -218,7 +221,9 @@ const DEADLINES: &[Step] = &[
     Step::Look(Look::NextDeadline(Some(10 * MILLI))),
     Step::Look(Look::Len(1)),
     Step::Look(Look::Counts((0, 0, 2, 0, 0))),
+    Step::Look(Look::FirstObserved(Some(FIRST))),
     Step::Wait(Wait::Close(Some(FIRST))),
+    Step::Look(Look::FirstObserved(Some(SECOND))),
     Step::Wait(Wait::Close(Some(SECOND))),
     Step::Look(Look::Len(0)),
     Step::Look(Look::Counts((0, 2, 3, 0, 0))),

@@ -90,6 +90,8 @@ pub enum Look {
     Is(Sign, bool),
     /// A task of the worker may look at a request, and waits for it.
     Seen(WaiterId, bool),
+    /// Whose observer is let go next, as the worker closes.
+    FirstObserved(Option<WaiterId>),
     /// Whether the worker may sleep now, in nanoseconds, where its next deadline is this.
     MaySleep(u64, Option<u64>, bool),
     /// How many requests are not over.

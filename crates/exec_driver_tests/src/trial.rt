@@ -141,6 +141,7 @@ impl Trial {
                 same_answer(rt, at, driver.may_be_seen(id), may);
                 same_answer(rt, at, driver.is_observed_here(id), may);
             }
+            Look::FirstObserved(id) => same_name(rt, at, driver.first_observed(), id),
             Look::MaySleep(now, deadline, may) => {
                 same_answer(rt, at, driver.may_sleep(now, deadline), may);
             }

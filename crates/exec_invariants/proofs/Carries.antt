@@ -1,17 +1,13 @@
 -- What keeps what the kernel has, where other steps change the requests.
-use Rattle.std.proofs.{Common.{◌≡◌, ◌≢◌, ℕ, ◌<◌, ◌==◌, Bool, true, false, List, [], Some, None, refl, sym, ap, subst, ◌∙◌, arith, slice_get, if◌then◌else◌}, lemmas.Bool.{false≢true, eq-eqb}}
+use Rattle.std.proofs.{Common.{◌≡◌, ◌≢◌, ℕ, ◌<◌, ◌≤◌, ◌==◌, Bool, true, false, List, [], Some, None, refl, sym, ap, subst, ◌∙◌, arith, slice_get}, lemmas.Bool.{false≢true, eq-eqb}}
 use Rattle.exec_base.specs.{Slab.{Slab, written}, declared.slab.Id.Id}
 use Rattle.exec_outcomes.specs.declared.outcome.Outcome.{Outcome}
-use Rattle.exec_request.specs.Requests.{target_of}
-use Rattle.exec_ring.specs.{Rings.RingState, declared.store.Store.Store}
+use Rattle.exec_request.specs.{Requests.target_of, declared.request.Request.Request as Asking}
+use Rattle.exec_ring.specs.{Rings.RingState, Stores.HasStretch, declared.store.Store.Store}
 use Rattle.exec_waiters.specs.{Ids.{user_data_of, index_in}, States.waiter_at, declared.waiter.{Entry.{Entry, TheVariants.Pending}, Waiter.Waiter}}
 use Rattle.exec_machine.specs.declared.state.RequestPhase.{RequestPhase}
 use Rattle.exec_parts.{specs.{declared.parts.{mail.Reply.Reply, record.Record.Record}, Records.number_in, Serving.changed_at}, proofs.Facts.{by_name, same_number, not_same}}
-use Rattle.exec_invariants.{specs.Carried.{HasStretchFor, IsCarried, IsUnderWay, IsWhole, may_move, moves_by, those_of, unlanded}, proofs.{Carrying.sum_changed, Changing.changes_one, Marking.{mark_if, was_marked}}}
-
-nothing : (b : Bool) → let none : ℕ = 0 in (if b then none else none) ≡ none
-nothing true = refl
-nothing false = refl
+use Rattle.exec_invariants.{specs.Carried.{HasRoom, HasStretchFor, IsCarried, IsUnderWay, IsWhole, may_move, those_of}, proofs.{Carrying.sum_changed, Changing.changes_one, Marking.{mark_if, was_marked}}}
 
 -- ONE REQUEST GOES ON, with its operation as it was: of its waiter and its record anything else may change
 
@@ -19,15 +15,27 @@ mark_operation : (f : Record → Record) (b : Bool) (r : Record) → (b ≡ true
 mark_operation f true r same = same refl
 mark_operation f false r same = refl
 
+mark_released : (f : Record → Record) (b : Bool) (r : Record) → (b ≡ true → (f r).shown.released ≡ r.shown.released) → (mark_if f b r).shown.released ≡ r.shown.released
+mark_released f true r same = same refl
+mark_released f false r same = refl
+
 mark_phase : (f : Record → Record) (b : Bool) (r : Record) → (b ≡ true → (f r).shown.phase ≡ r.shown.phase) → (mark_if f b r).shown.phase ≡ r.shown.phase
 mark_phase f true r same = same refl
 mark_phase f false r same = refl
 
+pub stretch_still : (q : Asking) (st st' : Store) → ((file offset n : ℕ) → HasStretch st file offset n → HasStretch st' file offset n) → HasStretchFor q st → HasStretchFor q st'
+stretch_still = grind arith
+
 module _ (numbers : List ℕ) (s : Slab (Entry Reply Reply)) (ring : RingState) (rs : List Record) (st : Store) (carried : IsCarried numbers s ring rs st) where
-  -- a record whose operation and phase stay
-  pub carried_marked : (k : ℕ) (f : Record → Record) → ((r : Record) → slice_get rs k ≡ Some r → (f r).shown.operation ≡ r.shown.operation) → ((r : Record) → slice_get rs k ≡ Some r → (f r).shown.phase ≡ r.shown.phase)
+  -- a record whose operation and phase stay, and another room by sockets
+  pub carried_room : (k : ℕ) (f : Record → Record) (st' : Store) → ((r : Record) → slice_get rs k ≡ Some r → (f r).shown.operation ≡ r.shown.operation) → ((r : Record) → slice_get rs k ≡ Some r → (f r).shown.phase ≡ r.shown.phase)
+      → HasRoom (changed_at rs k f) st' → ((file offset n : ℕ) → HasStretch st file offset n → HasStretch st' file offset n) → IsCarried numbers s ring (changed_at rs k f) st'
+  carried_room = grind (arith, was_marked, mark_operation, mark_phase, same_number, stretch_still)
+
+  -- a record whose operation and phase stay, and whether it was let go
+  pub carried_marked : (k : ℕ) (f : Record → Record) → ((r : Record) → slice_get rs k ≡ Some r → (f r).shown.operation ≡ r.shown.operation) → ((r : Record) → slice_get rs k ≡ Some r → (f r).shown.phase ≡ r.shown.phase) → ((r : Record) → slice_get rs k ≡ Some r → (f r).shown.released ≡ r.shown.released)
       → IsCarried numbers s ring (changed_at rs k f) st
-  carried_marked = grind (arith, was_marked, mark_operation, mark_phase, same_number, sum_changed)
+  carried_marked = grind (arith, was_marked, mark_operation, mark_phase, mark_released, same_number, sum_changed)
 
   -- what waits there keeps its request
   pub carried_waiter : (id : Id) (it it' : Waiter Reply Reply) → waiter_at s id ≡ Some it → it'.request ≡ it.request → IsCarried numbers (written s id (Pending it')) ring rs st
@@ -58,9 +66,9 @@ module _ (numbers : List ℕ) (s : Slab (Entry Reply Reply)) (ring : RingState) 
   pub carried_slab : (s' : Slab (Entry Reply Reply)) → ((id : Id) → waiter_at s' id ≡ waiter_at s id) → IsCarried numbers s' ring rs st
   carried_slab = grind arith
 
-  -- a request of which the ring has nothing is over
+  -- A request of which the ring has nothing is over, and has no more room than it had.
   module _ (s' : Slab (Entry Reply Reply)) (id : Id) (it : Waiter Reply Reply) (r : Record) (f : Record → Record) (outcome : Outcome) (live : waiter_at s id ≡ Some it) (there : slice_get rs (number_in numbers id) ≡ Some r)
-      (none : (those_of (user_data_of id) ring.flying ≡ []) × (those_of (user_data_of id) ring.staged ≡ [])) (gone : waiter_at s' id ≡ None) (others : (other : Id) → other ≢ id → waiter_at s' other ≡ waiter_at s other) (over : (f r).shown.phase ≡ RequestPhase.Resolved outcome)
+      (none : (those_of (user_data_of id) ring.flying ≡ []) × (those_of (user_data_of id) ring.staged ≡ [])) (gone : waiter_at s' id ≡ None) (others : (other : Id) → other ≢ id → waiter_at s' other ≡ waiter_at s other) (over : (f r).shown.phase ≡ RequestPhase.Resolved outcome) (less : (out : Bool) (socket : ℕ) → may_move out socket (f r) ≤ may_move out socket r)
       (apart : (other : Id) (x : Waiter Reply Reply) → waiter_at s other ≡ Some x → other ≢ id → number_in numbers id ≡ number_in numbers other → ⊥) where
     another : (other : Id) (x : Waiter Reply Reply) → waiter_at s' other ≡ Some x → other ≢ id
     another other x at same = let no : None ≡ Some x = sym gone ∙ ap (waiter_at s') (sym same) ∙ at in absurd (cc)
@@ -91,13 +99,12 @@ module _ (numbers : List ℕ) (s : Slab (Entry Reply Reply)) (ring : RingState) 
           nobody = λ v small free. nobody_by v (user_data_of id == v) refl small free;
           room = λ out socket.
               let sum = sum_changed (may_move out socket) rs (number_in numbers id) r f there in
-              let now : may_move out socket (f r) ≡ 0 = ap (λ p. if moves_by out socket (f r).shown.operation then unlanded p (f r).shown.operation else 0) over ∙ nothing (moves_by out socket (f r).shown.operation) in
               let room = carried.room out socket in
-              omega (arith, sum, now, room);
+              omega (arith, sum, less out socket, room);
           stretch = λ other x at. carried.stretch other x (before other x at);
         }
 
 -- a waiter that keeps its request, and a record whose operation and phase stay
 pub carried_still : (numbers : List ℕ) (s : Slab (Entry Reply Reply)) (ring : RingState) (rs : List Record) (st : Store) → IsCarried numbers s ring rs st → (id : Id) (it it' : Waiter Reply Reply) → waiter_at s id ≡ Some it → it'.request ≡ it.request → (k : ℕ) (f : Record → Record)
-    → ((r : Record) → slice_get rs k ≡ Some r → (f r).shown.operation ≡ r.shown.operation) → ((r : Record) → slice_get rs k ≡ Some r → (f r).shown.phase ≡ r.shown.phase) → IsCarried numbers (written s id (Pending it')) ring (changed_at rs k f) st
-carried_still numbers s ring rs st carried id it it' live same k f operation phase = carried_marked numbers (written s id (Pending it')) ring rs st (carried_waiter numbers s ring rs st carried id it it' live same) k f operation phase
+    → ((r : Record) → slice_get rs k ≡ Some r → (f r).shown.operation ≡ r.shown.operation) → ((r : Record) → slice_get rs k ≡ Some r → (f r).shown.phase ≡ r.shown.phase) → ((r : Record) → slice_get rs k ≡ Some r → (f r).shown.released ≡ r.shown.released) → IsCarried numbers (written s id (Pending it')) ring (changed_at rs k f) st
+carried_still numbers s ring rs st carried id it it' live same k f operation phase released = carried_marked numbers (written s id (Pending it')) ring rs st (carried_waiter numbers s ring rs st carried id it it' live same) k f operation phase released

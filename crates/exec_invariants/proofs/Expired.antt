@@ -7,10 +7,10 @@ use Rattle.exec_waiters.specs.{Events.{finished, told_by_finish, waker_in}, Stat
 use Rattle.exec_driver.specs.{Driving.{Driving, request_at, is_queued, is_unenrolled, is_cancelled}, Punctual.IsPunctual, Steps.{told_by_cancel, timed_out, unscheduled}}
 use Rattle.exec_lists.specs.Lists.{first_of, rest_of, without, withdrawn}
 use Rattle.exec_task.specs.declared.body.Said.{Said}
-use Rattle.exec_machine.specs.{declared.{event.Event.{Event, TheVariants.Expire}, state.RequestPhase.RequestPhase}, Deadlines.{expired, outcome_at_expiry}, Same.same_end, Tests.{is_gated, is_queued as is_phase_queued}, World.{Common, request_of}, Requests.{joined_if, resolved}}
+use Rattle.exec_machine.specs.{declared.{event.Event.{Event, TheVariants.Expire}, state.RequestPhase.RequestPhase}, Deadlines.{expired, outcome_at_expiry}, Same.same_end, Tests.{is_gated, is_landed, is_queued as is_phase_queued}, World.{Common, request_of}, Requests.{joined_if, resolved}}
 use Rattle.exec_moves.specs.{Told.{told_of_end}, Submit.{due_next, first_due, submits, Due.Expires}, declared.place.{Place.Place, InService.InService}}
 use Rattle.exec_parts.specs.{declared.parts.{mail.Reply.Reply, shared.Shared.Shared, worker.Worker.Worker}, Records.number_in, Serving.changed_at, Spots.Spot, View.{visible, with_view, own_of, desk_of, driver_of, common_of, seat_seen, numbers_of}}
-use Rattle.exec_invariants.{specs.{Due.IsWheelAt, Gates.at_gate, Holding.nap_of, HoldPlaces.is_bare_at, Places.passes_at, Submits.{IsDueIn, IsInOrder}, Works.Steps}, proofs.{Serving.{at_large, SparesRecords, kept, spares_one}, ServingHolds.{serves_to, IsServed, OthersKept, keeps_home, Serves, Keeps, KeepsBy}, ServingPlaces.calm, Enrolled.timed_free, Late.{over_named, stands, ends_as, same_error_self, same_place, tells_error}, Recorded.request_seen, EndsServed.{desk_over, ends_thing}, Lined.opens_same, ServedEnds.{TellsEnd, ends_told}, ServedWakes.balances_ended, Seeing.{shows, served, common_changed, common_same, things_kept}, Staging.{split_first, stages_again}, Ends.{flying_ended, numbers_without, without_first}, Orders.alike_unticked, Ousting.keeps_ended, Over.{OneEnds, Resolves}, Resolving.{slab_after, unticked_at}, Starting.queued_phase, Expiring.{HasExpired, comes_to_due, due_first, expires, same_change, told_first, unticked_start, unticked_tick}}}
+use Rattle.exec_invariants.{specs.{Due.IsWheelAt, Gates.at_gate, Holding.nap_of, HoldPlaces.is_bare_at, Places.passes_at, Submits.{IsDueIn, IsInOrder}, Works.Steps}, proofs.{Serving.{at_large, SparesRecords, kept, spares_one}, ServingHolds.{serves_to, IsServed, OthersKept, keeps_home, Serves, Keeps, KeepsBy}, ServingPlaces.calm, Enrolled.timed_free, Late.{over_named, stands, ends_as, same_error_self, same_place, tells_error}, Recorded.request_seen, EndsServed.{desk_over, ends_thing}, Lined.opens_same, ServedEnds.{TellsEnd, ends_told}, ServedWakes.balances_ended, Seeing.{shows, served, common_changed, common_same, things_kept}, Staging.{split_first, stages_again}, Ends.{flying_ended, numbers_without, without_first}, Orders.alike_unticked, Ousting.keeps_ended, Over.{OneEnds, Resolves, leaves_all}, Resolving.{slab_after, unticked_at}, Starting.queued_phase, Expiring.{HasExpired, comes_to_due, due_first, expires, same_change, told_first, unticked_start, unticked_tick}}}
 
 module _ {B L : Type 0} (left : B → L) (spot : L → Option Said → Spot) where
   pub expiry_ends : (w w' : Worker) (s s' : Shared B) (e : Event) (id : WaiterId) → (new : IsDueIn w s) → IsInOrder w s → (first : first_of (driver_of w).lists.due ≡ Some id) → (due_first w s new id first).it.in_flight ≡ false → HasExpired w w' s s' e id (due_first w s new id first).r → Steps left spot w s e w' s'
@@ -51,7 +51,7 @@ module _ {B L : Type 0} (left : B → L) (spot : L → Option Said → Spot) whe
       let ending_told : TellsEnd id.0 told it.observer t = ends_told id.0 it (Err error) None who.r.shown.forwarding a.near in
       let slab = slab_after d.requests id.0 it (Err error) None small who.live in
       let resolves : Resolves who.r (ends_as outcome who.r) outcome = record { same = refl } in
-      let one : OneEnds w.names d d'.requests rs id.0 it who.r (ends_as outcome) outcome told = assumption (who.live, slab, resolves, who) in
+      let one : OneEnds w.names d d'.requests rs id.0 it who.r (ends_as outcome) outcome told = assumption (who.live, slab, resolves, leaves_all who.r outcome (ap is_landed phase_is) who.alike.open_still, who) in
       let deferred = w'.home.deferred in
       let ended_by : w'.names.ended.items ≡ w.names.ended.items ++ k ∷ [] = by.ended ∙ ap (λ o. joined_if (is_some o) w.names.ended.items k) ends in
       let records : s'.requests.items ≡ changed_at rs k (ends_as outcome) = by.records ∙ same_change rs k who.r expires (ends_as outcome) who.there (ap (λ o. record who.r { shown = expired o who.r.shown }) ends) in

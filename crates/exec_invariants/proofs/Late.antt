@@ -7,10 +7,10 @@ use Rattle.exec_waiters.specs.{Events.{finished, told_by_finish, waker_in}, Stat
 use Rattle.exec_driver.specs.{Driving.{Driving, request_at, is_queued, is_unenrolled, is_cancelled}, Punctual.IsPunctual, Steps.{told_by_enrolment, tick_for, ended_by, unscheduled}}
 use Rattle.exec_lists.specs.Lists.{first_of, rest_of, is_among, without, withdrawn}
 use Rattle.exec_task.specs.declared.body.Said.{Said}
-use Rattle.exec_machine.specs.{declared.{event.Event.{Event, TheVariants.Enrol}, state.Request.Request}, Deadlines.outcome_at_enrol, Same.{is_none, is_number, same_end}, Tests.{is_gated, is_queued as is_phase_queued, is_resolved}, World.{Common, request_of}, Requests.resolved}
+use Rattle.exec_machine.specs.{declared.{event.Event.{Event, TheVariants.Enrol}, state.Request.Request}, Deadlines.outcome_at_enrol, Same.{is_none, is_number, same_end}, Tests.{is_gated, is_landed, is_queued as is_phase_queued, is_resolved}, World.{Common, request_of}, Requests.resolved}
 use Rattle.exec_moves.specs.{Told.{told_of_end}, State.Desk, Submit.{due_next, first_due, submits, Due.Enrols}, declared.place.{Service.Service, Place.Place, InService.InService}}
 use Rattle.exec_parts.{specs.{declared.parts.{mail.Reply.Reply, record.Record.Record, shared.Shared.Shared, worker.Worker.Worker}, Records.number_in, Serving.{changed_at, outcome_of_error}, Spots.Spot, View.{visible, with_view, own_of, desk_of, driver_of, common_of, seat_seen, numbers_of}}, proofs.Facts.and_right}
-use Rattle.exec_invariants.{specs.{Due.IsWheelAt, Gates.at_gate, Holding.nap_of, HoldPlaces.is_bare_at, Places.passes_at, Submits.IsNewIn, Works.Steps, Rooted.outcome_told}, proofs.{Serving.{at_large, SparesRecords, kept, spares_one}, ServingHolds.{serves_to, IsServed, OthersKept, keeps_home, Serves, Keeps, KeepsBy}, ServingPlaces.calm, Recorded.request_seen, EndsServed.{desk_over, ends_thing}, Lined.opens_same, ServedEnds.{TellsEnd, ends_told}, ServedWakes.balances_ended, Enrolled.{HasEnrolled, new_first, timed_free}, Keys.name_in, Enrolling.enrol_same, Idling.none_due, Seeing.{shows, served, common_changed, common_same, things_kept}, Staging.{split_first, stages_again}, Ends.{flying_ended, later_in, numbers_without, without_first}, Orders.alike_unticked, Ousting.keeps_ended, Over.{OneEnds, Resolves}, Resolving.{slab_after, unticked_at}, Timed.{comes_to_new, unset}}}
+use Rattle.exec_invariants.{specs.{Due.IsWheelAt, Gates.at_gate, Holding.nap_of, HoldPlaces.is_bare_at, Places.passes_at, Submits.IsNewIn, Works.Steps, Rooted.outcome_told}, proofs.{Serving.{at_large, SparesRecords, kept, spares_one}, ServingHolds.{serves_to, IsServed, OthersKept, keeps_home, Serves, Keeps, KeepsBy}, ServingPlaces.calm, Recorded.request_seen, EndsServed.{desk_over, ends_thing}, Lined.opens_same, ServedEnds.{TellsEnd, ends_told}, ServedWakes.balances_ended, Enrolled.{HasEnrolled, new_first, timed_free}, Keys.name_in, Enrolling.enrol_same, Idling.none_due, Seeing.{shows, served, common_changed, common_same, things_kept}, Staging.{split_first, stages_again}, Ends.{flying_ended, later_in, numbers_without, without_first}, Orders.alike_unticked, Ousting.keeps_ended, Over.{OneEnds, Resolves, leaves_all}, Resolving.{slab_after, unticked_at}, Timed.{comes_to_new, unset}}}
 pub use Rattle.exec_invariants.proofs.Results.{same_error_self}
 pub use Rattle.exec_invariants.proofs.Mine.{stands}
 
@@ -79,7 +79,7 @@ module _ {B L : Type 0} (left : B → L) (spot : L → Option Said → Spot) whe
       let ending_told : TellsEnd id.0 told it.observer t = ends_told id.0 it (Err error) None who.r.shown.forwarding a.near in
       let slab = slab_after d.requests id.0 it (Err error) None small who.live in
       let ends : Resolves who.r ((ends_as outcome) who.r) outcome = record { same = refl } in
-      let one : OneEnds w.names d d'.requests rs id.0 it who.r (ends_as outcome) outcome told = assumption (who.live, slab, ends, who) in
+      let one : OneEnds w.names d d'.requests rs id.0 it who.r (ends_as outcome) outcome told = assumption (who.live, slab, ends, leaves_all who.r outcome (ap is_landed who.queued) (ap is_resolved who.queued), who) in
       let deferred = w'.home.deferred in
       let w1 : Worker = record w { place = q; names = record w.names { ended = w'.names.ended }; home = record w.home { deferred = deferred } } in
       let rs' = changed_at rs k (ends_as outcome) in

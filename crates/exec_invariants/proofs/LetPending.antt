@@ -6,10 +6,10 @@ use Rattle.exec_request.specs.{Requests.{asked_of, goes_on_alone, output_of}, St
 use Rattle.exec_waiters.{specs.{Events.{cancelled as cancelled_of, told_by_finish, told_to, orphaned_from}, States.{is_held_by, tick_in, waiter_at, waiter_of}, Told.{Told, Tells, nothing_told}, declared.{deferred.Deferred.Deferred, waiter.{Entry.TheVariants.{Pending, Ready}, Waiter.Waiter}, waiter_id.WaiterId.WaiterId}}, proofs.Changes.entry_of}
 use Rattle.exec_driver.specs.{Driving.Driving, Punctual.IsPunctual, Steps.{both, cancelling, cancelled_from, ended, timed_out, told_by_cancel, without_observer}}
 use Rattle.exec_lists.specs.Lists.{without}
-use Rattle.exec_machine.specs.{declared.state.RequestPhase.RequestPhase, Requests.{ends_by_drop, is_cancelled_by_drop, joined_if}, Tests.{is_gated, is_in_flight, is_kept, is_queued}}
+use Rattle.exec_machine.specs.{declared.state.RequestPhase.RequestPhase, Requests.{ends_by_drop, is_cancelled_by_drop, joined_if}, Tests.{is_gated, is_in_flight, is_kept, is_landed, is_queued, is_resolved}}
 use Rattle.exec_moves.specs.declared.{handing.AfterCallbacks.AfterCallbacks, place.{InCallbacks.InCallbacks, Place.Place}}
 use Rattle.exec_parts.{specs.{declared.parts.{mail.Reply.Reply, record.Record.Record, shared.Shared.Shared, worker.Worker.Worker}, Awaits.{LetsGo, drops}, Polls.unobserved, Records.number_in, Serving.{changed_at}, View.driver_of}, proofs.Facts.and_right}
-use Rattle.exec_invariants.{specs.{Due.{IsDue, IsWheelAt}, Flown.HasFlown, Gates.AreLinedUp, HoldPlaces.{has_wakes_at, is_bare_at}, Names.IsAlike, Sound.served_in}, proofs.{ReapKinds.{durable_kept, kept_alone}, Cancelling.among_last, Changing.changes_one, Expiring.{flies_not_queued, unticked_start, unticked_tick}, LetKept.{alike_cancelled, alike_orphaned, asks_once, cancels_now, ends_it, ends_now, let_cancel, not_gone, pending_let, punctual_watched, without_waiter, written_twice}, Orders.{alike_self, alike_unticked}, Ousting.keeps_ended, Over.OneEnds, Resolving.{slab_after, unticked_at}, ServedEnds.ends_told, ServingHolds.{KeepsSpare, KeepsWith}, Starting.queued_phase, Watching.{Watched, now_there, watched}, LetGone.{number, final, still_on, records_are, gone, output_gone}}}
+use Rattle.exec_invariants.{specs.{Due.{IsDue, IsWheelAt}, Flown.HasFlown, Gates.AreLinedUp, HoldPlaces.{has_wakes_at, is_bare_at}, Names.IsAlike, Sound.served_in}, proofs.{ReapKinds.{durable_kept, kept_alone}, Cancelling.among_last, Changing.changes_one, Expiring.{flies_not_queued, unticked_start, unticked_tick}, LetKept.{alike_cancelled, alike_orphaned, asks_once, cancels_now, ends_it, ends_now, let_cancel, not_gone, pending_let, punctual_watched, without_waiter, written_twice}, Orders.{alike_self, alike_unticked}, Ousting.keeps_ended, Over.{OneEnds, leaves_all}, Resolving.{slab_after, unticked_at}, ServedEnds.ends_told, ServingHolds.{KeepsSpare, KeepsWith}, Starting.queued_phase, Watching.{Watched, now_there, watched}, LetGone.{number, final, still_on, records_are, gone, output_gone}}}
 
 none_cleared : (id : WaiterId) (ids : List WaiterId) → ids ≡ [] → without id ids ≡ []
 none_cleared id ids none = ap (without id) none
@@ -145,9 +145,9 @@ module _ {B : Type 0} (k : ℕ) (w v : Worker) (s s' : Shared B) (idle : served_
       let mid : KeepsWith spare w1 d1 zs rs1 ss s = elsewhere w left1 d1 rs1 q' refl refl refl first in
       let here : slice_get rs1 kk ≡ Some r1 = now_there w.index w.names d d1 zs s.requests.items rs1 ss id lets.r unobserved (orphaned_by it going) in
       let small = (keeps.known.past k lets.r lets.request mine).0 in
-      let one : OneEnds w.names d1 d'.requests rs1 id it1 r1 ends_now (Failure Timeout) told = record { at = going.alone; there = here; slab = slab_after d1.requests id it1 timed_out None small going.alone; ends = record { same = refl } } in
       let ungated : is_gated lets.r.shown.phase ≡ false = a.permit ∙ ap (λ b. b && not it.permit) (durable_kept (asked_of it.request).kind (kept_so it going lets_it)) in
       let queued : lets.r.shown.phase ≡ RequestPhase.Queued = queued_phase lets.r.shown.phase (a.flying ∙ flies) a.open_still ungated in
+      let one : OneEnds w.names d1 d'.requests rs1 id it1 r1 ends_now (Failure Timeout) told = record { at = going.alone; there = here; slab = slab_after d1.requests id it1 timed_out None small going.alone; ends = record { same = refl }; less = leaves_all r1 (Failure Timeout) (ap is_landed queued) (ap is_resolved queued) } in
       let ends : ends_by_drop lets.r.shown ≡ true = ap (λ p. is_queued p && not (is_kept lets.r.shown.operation.kind)) queued ∙ ap not lets_it in
       let ended_by : v.names.ended.items ≡ w.names.ended.items ++ kk ∷ [] = lets.ended ∙ ap (λ b. joined_if b w.names.ended.items k) ends ∙ ap (λ q. w.names.ended.items ++ q ∷ []) (sym going.is) in
       let plain = keeps.flown.plain k lets.r lets.request mine in

@@ -45,7 +45,7 @@ module _ {B : Type 0} (w : Worker) (s : Shared B) (d d' : Driving Reply Reply) (
       let n = w.names.requests.items in
       carried_ring n d'.requests d.ring rs_ended s.store
       (carried_over n d.requests d.ring rs s.store keeps.carried d'.requests id it r f outcome one.at one.there none
-      (gone_here w.index w.names d d' zs rs ss id it r f outcome told one keeps.named keeps.due.timed) (λ other apart. ap waiter_of (one.slab.others other apart)) (ap (λ y. y.shown.phase) one.ends.same)
+      (gone_here w.index w.names d d' zs rs ss id it r f outcome told one keeps.named keeps.due.timed) (λ other apart. ap waiter_of (one.slab.others other apart)) (ap (λ y. y.shown.phase) one.ends.same) one.less
       (λ other x at apart. apart_number w.index w.names d d' zs rs ss id it r f outcome told one keeps.named keeps.due.timed other (rw (entry_of (value_at d.requests other) x at) refl) apart))
       d'.ring (λ v small. ap (those_of v) flying) (λ v small. ap (those_of v) entries)
 

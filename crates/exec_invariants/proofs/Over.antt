@@ -1,5 +1,5 @@
 -- What holds again once a request is over, which the kernel doesn't have.
-use Rattle.std.proofs.{Common.{◌≡◌, ◌≢◌, ◌⊎◌, ℕ, zero, suc, ◌+◌, ◌==◌, Bool, true, false, List, [], ◌∷◌, ◌++◌, length, Some, None, IsSome, refl, sym, ap, subst, ◌∙◌, arith, inl, inr, slice_get}, lemmas.{Bool.{false≢true, eq-eqb}, List.length-append}}
+use Rattle.std.proofs.{Common.{◌≡◌, ◌≢◌, ◌⊎◌, ℕ, zero, suc, ◌+◌, ◌≤◌, ◌==◌, Bool, true, false, List, [], ◌∷◌, ◌++◌, length, Some, None, IsSome, refl, sym, ap, subst, ◌∙◌, arith, inl, inr, slice_get}, lemmas.{Bool.{false≢true, eq-eqb}, List.length-append}}
 use Rattle.std.proofs.lemmas.Bool.{true_from_ne_false}
 use Rattle.exec_base.specs.{Slab.{Slab, value_at}, declared.slab.Id.Id}
 use Rattle.exec_outcomes.specs.declared.outcome.Outcome.{Outcome}
@@ -7,9 +7,9 @@ use Rattle.exec_time.specs.declared.timers.Sleeper.{Sleeper as Sleeping}
 use Rattle.exec_request.specs.declared.output.RequestOutput.{RequestOutput}
 use Rattle.exec_waiters.{specs.{States.{waiter_at, waiter_of}, declared.{waiter.{Entry.{Entry}, Waiter.Waiter}}}, proofs.Changes.entry_of}
 use Rattle.exec_driver.specs.Driving.{Driving}
-use Rattle.exec_machine.specs.{declared.state.RequestPhase.TheVariants.Resolved, Tests.is_resolved}
+use Rattle.exec_machine.specs.{declared.state.RequestPhase.TheVariants.Resolved, Requests.resolved, Tests.{is_landed, is_resolved}}
 use Rattle.exec_parts.{specs.{declared.parts.{mail.Reply.Reply, names.Names.Names, record.Record.Record, sleeping.SleeperRecord.SleeperRecord}, Records.number_in, Serving.changed_at}, proofs.Facts.{by_name, same_number}}
-use Rattle.exec_invariants.{specs.{Due.AreTimed, Sound.AreOver, Names.{IsNamed, IsAlike, IsSubmitted}}, proofs.{Marking.{mark_if, marked, was_marked}, Resolving.{SlabAfter}}}
+use Rattle.exec_invariants.{specs.{Carried.may_move, Due.AreTimed, Sound.AreOver, Names.{IsNamed, IsAlike, IsSubmitted}}, proofs.{Marking.{mark_if, marked, was_marked}, Resolving.{SlabAfter}}}
 
 -- what stands in a list with one more at its end
 module _ {A : Type 0} where
@@ -34,6 +34,11 @@ pub record OneEnds (n : Names) (d : Driving Reply Reply) (s' : Slab (Entry Reply
   pub there : slice_get rs (number_in n.requests.items id) ≡ Some r
   pub slab : SlabAfter d.requests s' id it told
   pub ends : Resolves r (f r) outcome
+  pub less : (out : Bool) (socket : ℕ) → may_move out socket (f r) ≤ may_move out socket r
+
+-- who ends without one more result leaves what it had
+pub leaves_all : (r : Record) (o : Outcome) → is_landed r.shown.phase ≡ false → is_resolved r.shown.phase ≡ false → (out : Bool) (socket : ℕ) → may_move out socket (record r { shown = resolved o r.shown }) ≤ may_move out socket r
+leaves_all = grind arith
 
 module _ (i : ℕ) (n : Names) (d d' : Driving Reply Reply) (zs : Slab (Sleeping Reply)) (rs : List Record) (ss : List SleeperRecord) (id : Id) (it : Waiter Reply Reply) (r : Record) (f : Record → Record) (outcome : Outcome) (told : RequestOutput)
     (one : OneEnds n d d'.requests rs id it r f outcome told) (named : IsNamed i n d zs rs ss) (timed : AreTimed i n rs) where

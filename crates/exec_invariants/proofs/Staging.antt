@@ -231,7 +231,7 @@ module _ {B L : Type 0} (left : B → L) (spot : L → Option Said → Spot) whe
       keeps_all w w' s s' rs' d' same it.shared it.driver it.records
       (subst (λ y. KeepsBy (record w { place = y; put_off = w'.put_off; names = record w.names { staged = w'.names.staged; untold = w'.names.untold } }) d' w.home.timers rs' s.sleepers.items s) (sym there)
       (keeps_one q q w'.put_off w'.names w s d' id.0 ask.it ask.it ask.r marks_cancel sound (stages_again idle.gate v) one (subst IsPunctual it.driver punctual) (λ h. idle.due) sound.due.order sound.due.wheel refl submitted flown_then
-      (carried_beside w.names.requests.items d.requests d.ring rs' s.store (carried_marked w.names.requests.items d.requests d.ring rs s.store sound.carried k marks_cancel (λ r at. refl) (λ r at. refl)) (cancel_entry id).window 4294967295 (λ h. omega (arith, h)))
+      (carried_beside w.names.requests.items d.requests d.ring rs' s.store (carried_marked w.names.requests.items d.requests d.ring rs s.store sound.carried k marks_cancel (λ r at. refl) (λ r at. refl) (λ r at. refl)) (cancel_entry id).window 4294967295 (λ h. omega (arith, h)))
       refl (known_marked w.index w.names.requests.items d.requests s.opens s.opens rs k marks_cancel (λ y. record { id = refl; worker = refl; kind = refl; target = refl; unrefused = λ h. h }) (λ file h. h) sound.known))) in
       let serves : Serves q w w' s s' = serves_to q q w w' s s' (subst (IsServed w) (sym it.worker) refl) (subst (OthersKept s) (sym it.shared) refl) there (stages_again idle.gate v) in
       let show = shows q w w' s s' d' serves it.driver (ap (λ (v : Worker). v.home.timers) it.worker) in

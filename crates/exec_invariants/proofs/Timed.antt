@@ -153,6 +153,6 @@ module _ {B : Type 0} (w : Worker) (s : Shared B) (new : IsNewIn w s) (id : Wait
       (subst (λ ids. IsOrdered (went_round c w.moments) w.names.requests.items d.requests d.wheel ids []) (split_first id d.lists.enrolments first)
       (subst (IsOrdered (went_round c w.moments) w.names.requests.items d.requests d.wheel d.lists.enrolments) new.due sound.due.order))))
       (one_more c start now d.wheel id.0 t wheel) refl (submitted_timed t) (flown_timed t)
-      (carried_still w.names.requests.items d.requests d.ring s.requests.items s.store sound.carried id.0 it it' who.live refl (number_in w.names.requests.items id.0) f (λ r there. refl) (λ r there. refl))
+      (carried_still w.names.requests.items d.requests d.ring s.requests.items s.store sound.carried id.0 it it' who.live refl (number_in w.names.requests.items id.0) f (λ r there. refl) (λ r there. refl) (λ r there. refl))
       refl
       (known_written w.index w.names.requests.items d.requests s.opens s.opens s.requests.items (number_in w.names.requests.items id.0) f (λ y. record { id = refl; worker = refl; kind = refl; target = refl; unrefused = λ h. h }) (λ file h. h) id.0 it it' who.r refl who.live who.there (inl (λ h. inl h)) sound.known)

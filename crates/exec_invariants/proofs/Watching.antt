@@ -155,7 +155,7 @@ module _ (i : ℕ) (n : Names) (d d' : Driving Reply Reply) (zs : Slab (Sleeping
       let numbers = n.requests.items in
       let is : (o : Record) → slice_get rs (number_in numbers id) ≡ Some o → r ≡ o = λ o at. cc (by.there, at) in
       let marked = carried_marked numbers d.requests d.ring rs st carried (number_in numbers id) f
-      (λ o at. subst (λ y. (f y).shown.operation ≡ y.shown.operation) (is o at) (ap (λ y. y.shown.operation) by.keeps)) (λ o at. subst (λ y. (f y).shown.phase ≡ y.shown.phase) (is o at) (ap (λ y. y.shown.phase) by.keeps)) in
+      (λ o at. subst (λ y. (f y).shown.operation ≡ y.shown.operation) (is o at) (ap (λ y. y.shown.operation) by.keeps)) (λ o at. subst (λ y. (f y).shown.phase ≡ y.shown.phase) (is o at) (ap (λ y. y.shown.phase) by.keeps)) (λ o at. subst (λ y. (f y).shown.released ≡ y.shown.released) (is o at) (ap (λ y. y.shown.released) by.keeps)) in
       let before : IsCarried numbers d.requests d'.ring rs' st =
       subst (λ x. IsCarried numbers d.requests x rs' st) (sym by.ring) (subst (λ xs. IsCarried numbers d.requests d.ring xs st) (sym by.records) marked) in
       by_waiter (waiter_at d.requests id) refl by.waits before

@@ -42,11 +42,11 @@ IsUnderWay Staged user_data q r = (those_of user_data r.flying ≡ []) × IsLone
 IsUnderWay Flying user_data q r = IsLone user_data q r.flying × (those_of user_data r.staged ≡ [])
 IsUnderWay _ user_data q r = (those_of user_data r.flying ≡ []) × (those_of user_data r.staged ≡ [])
 
--- how many bytes may still land
-abbrev pub unlanded : RequestPhase → Operation → ℕ
-unlanded (Resolved outcome) o = 0
-unlanded (Landed given) o = (o.length - o.moved) - bytes_of given
-unlanded _ o = o.length - o.moved
+-- how many bytes may still land, and of a request that is over, how many it has left room for until that is given back
+abbrev pub unlanded : RequestPhase → Bool → Operation → ℕ
+unlanded (Resolved outcome) released o = if released then 0 else o.length - o.moved
+unlanded (Landed given) released o = (o.length - o.moved) - bytes_of given
+unlanded _ released o = o.length - o.moved
 
 -- bytes that go out by a socket, or that come in
 abbrev pub is_moved_by : Bool → Kind → Bool
@@ -57,13 +57,13 @@ abbrev pub moves_by : Bool → ℕ → Operation → Bool
 moves_by out socket o = is_moved_by out o.kind && (o.target == socket)
 
 abbrev pub may_move : Bool → ℕ → Record → ℕ
-may_move out socket r = if moves_by out socket r.shown.operation then unlanded r.shown.phase r.shown.operation else 0
+may_move out socket r = if moves_by out socket r.shown.operation then unlanded r.shown.phase r.shown.released r.shown.operation else 0
 
 abbrev pub room_for : Bool → SocketState → ℕ
 room_for true s = s.sent_room
 room_for false s = s.received_room
 
--- what may still move by each socket has room
+-- What may still move by each socket has room, beside what requests that are over have left.
 abbrev pub HasRoom : List Record → Store → Type 0
 HasRoom records store = (out : Bool) (socket : ℕ) → sum_by (may_move out socket) records ≤ room_for out (socket_of store socket)
 

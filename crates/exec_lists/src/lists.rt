@@ -2,7 +2,7 @@
 //!
 //! Who leaves a place is taken out of its list at once, so a list has no name that isn't in its place. What is in a
 //! place, and that none is in two, is for the driver to know; here are the lists alone, with room for as many requests
-//! as `reserve` was told, so no other call takes memory.
+//! as `make_room` was told, so no other call takes memory.
 
 ghost use Rattle.std.specs.Prelude.{◌≡◌, ◌<◌, ◌≤◌, false, length, max, if◌then◌else◌, OnOk, OnErr};
 ghost use Rattle.std.specs.VecDeque.{deque_capacity};
@@ -66,15 +66,15 @@ impl Lists {
     }
 
     /// Makes room for so many requests in all. Err only for want of memory, and then nothing changes.
-    pub fn reserve(&mut self, count: usize) -> Result<(), AllocError>
+    pub fn make_room(&mut self, alloc: Global, count: usize) -> Result<(), AllocError>
         ensures ok { OnOk result (self.new ≡ record self.old { room = max self.old.room count }) }
         ensures kept { OnErr result (self.new ≡ self.old) }
     {
-        self.queued.reserve(count)?;
-        self.gated.reserve(count)?;
-        self.enrolments.reserve(count)?;
-        self.due.reserve(count)?;
-        self.cancels.reserve(count)?;
+        self.queued.make_room(alloc, count)?;
+        self.gated.make_room(alloc, count)?;
+        self.enrolments.make_room(alloc, count)?;
+        self.due.make_room(alloc, count)?;
+        self.cancels.make_room(alloc, count)?;
         self.room = self.room.max(count);
         Ok(())
     }

@@ -38,7 +38,7 @@ impl NameList {
     }
 
     /// Makes room for so many names in all, and counts so many slots, unless a name has one that isn't counted.
-    pub(crate) fn reserve(&mut self, count: usize) -> Result<(), AllocError>
+    pub(crate) fn make_room(&mut self, _alloc: Global, count: usize) -> Result<(), AllocError>
         ensures names { self.new.names.items ≡ self.old.names.items }
         ensures more { deque_capacity self.old.names ≤ deque_capacity self.new.names }
         ensures room { OnOk result (count ≤ deque_capacity self.new.names) }

@@ -59,8 +59,9 @@ pub trait Backlog {
         ensures dry { IsFalse result → Rose (dry self.old) (dry self.new) }
         ensures steals { steals self.old start result self.new };
 
-    /// Wakes a published worker for a backlog, as `Idle::notify` does. The caller must have found no
-    /// count besides those that it returned. Its worker must not be published, and hold at most one.
+    /// Wakes a published worker for a backlog, as `Idle::notify` does. The caller must give a seat of
+    /// this idle set, whose workers are all of the pool, and have found no count besides those that it
+    /// returned. Its worker must not be published, and hold at most one.
     fn kick<R: Wait>(&mut self, rt: &R, idle: &Idle, seat: &mut IdleSeat)
         requires at { IsSeatOf idle.now seat.old }
         requires last { (knows seat.old).saw ≡ 0 }

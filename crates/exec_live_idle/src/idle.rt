@@ -2,9 +2,22 @@
 //!
 //! A worker's seat publishes and withdraws its worker. Any seat adds, returns and hands over search
 //! counts: what it holds is a number in its view, and each call asks for what it takes. A claim may
-//! wait, since an exchange that is lost is tried again; each other call is one atomic step. The play
-//! of a step (`specs/Plays.antt`) says that it is the transition of the same name of `exec_words`'
-//! `PureIdle`, on the word that it found. Ports the `Idle` of `commonware_runtime`'s `iouring::idle`.
+//! wait, since an exchange that is lost is tried again; each other call is one atomic step. Each step
+//! is a call of `exec_words`' `PureIdle`. What it does to the word that it found its play says
+//! (`specs/Plays.antt`), by one of four transitions; `laws` says that the call does the same.
+//!
+//! | Step | Call of `PureIdle` | Transition |
+//! |---|---|---|
+//! | `set_bit` | `publish` | `publish` |
+//! | `withdraw` | `withdraw` | `withdraw` |
+//! | `claim_exchange` | `claim_exchange` | `withdraw` of the lowest worker, or none where it is lost |
+//! | `look` | `set` | none |
+//! | `add` | `add` | `add` |
+//! | `subtract`, which answers whether the count found was 1 | `subtract` | `subtract` |
+//! | `add_first`, which answers whether the count found was 0 | `count_exchange` | `add`, or none where it is lost |
+//! | `count` | `count` | none |
+//!
+//! Ports the `Idle` of `commonware_runtime`'s `iouring::idle`.
 
 ghost use Rattle.std.specs.Prelude.{◌≡◌, ◌≢◌, ◌+◌, ◌<◌, ◌≤◌, ◌↔◌, IsTrue, true, false, Some, IfOk, IfErr, IfSome, IfNone};
 ghost use Rattle.crossbeam_utils.specs.Padded.{padded_value};
@@ -44,8 +57,8 @@ impl Idle {
         &self.words.shared
     }
 
-    /// Makes a seat of the number that this seat has, which goes on with the next number. The
-    /// caller must not have published, and must have a number beyond.
+    /// Makes a seat of the number that this seat has, which goes on with the next number. The caller
+    /// must give a seat of this set, which hasn't published and has a number beyond.
     #[tactic(auto, using(crate::proofs::Allowed::make_))]
     pub fn seat(&self, first: &mut IdleSeat) -> IdleSeat
         requires at { IsSeatOf self.now first.old }
@@ -61,8 +74,8 @@ impl Idle {
         IdleSeat { place, number }
     }
 
-    /// Takes over the search counts of another seat, whose number is gone then. The other must not
-    /// have published.
+    /// Takes over the search counts of another seat, whose number is gone then. The caller must give
+    /// two seats of this set, which hold two counts at most together; the other must not have published.
     #[tactic(auto, using(crate::proofs::Allowed::join_))]
     pub fn join(&self, seat: &mut IdleSeat, other: IdleSeat)
         requires at { IsSeatOf self.now seat.old }
@@ -75,7 +88,8 @@ impl Idle {
         self.shared().join_seat::<TakeOver>(&mut seat.place, place);
     }
 
-    /// Publishes the worker of the seat: the or of its bit into the set.
+    /// Publishes the worker of the seat: the or of its bit into the set. The caller must give a
+    /// worker's seat of this set, which hasn't published.
     pub fn set_bit(&self, seat: &mut IdleSeat)
         requires at { IsSeatOf self.now seat.old }
         requires worker { (knows seat.old).number < (knows seat.old).workers }
@@ -88,7 +102,8 @@ impl Idle {
 
     /// Withdraws the worker of the seat: the and of its bit out of the set. Answers whether its bit
     /// was still there; where it was gone, a claim took it, and the seat holds the claimer's count.
-    /// The caller must have published, and hold at most one count.
+    /// The caller must give a worker's seat of this set, which has published and holds at most one
+    /// count.
     pub fn withdraw(&self, seat: &mut IdleSeat) -> bool
         requires at { IsSeatOf self.now seat.old }
         requires worker { (knows seat.old).number < (knows seat.old).workers }
@@ -103,8 +118,8 @@ impl Idle {
     }
 
     /// Claims the lowest published worker, and hands a search count over to it. None where the set
-    /// was found empty. The caller must hold a count. It may wait, since an exchange that is lost
-    /// is tried again.
+    /// was found empty. It may wait, since an exchange that is lost is tried again. The caller must
+    /// give a seat of this set, which holds a count.
     pub fn claim(&self, rt: &impl Wait, seat: &mut IdleSeat) -> Option<usize>
         requires at { IsSeatOf self.now seat.old }
         requires holds { 0 < (knows seat.old).held }
@@ -121,7 +136,8 @@ impl Idle {
         self.claim_from(rt, seat, seen)
     }
 
-    /// A claim that begins with a set that was seen, which isn't empty.
+    /// A claim that begins with a set that was seen. The caller must give a seat of this set, which
+    /// holds a count, and a set that isn't empty.
     pub(crate) fn claim_from(
         &self,
         rt: &impl Wait,
@@ -149,7 +165,7 @@ impl Idle {
 
     /// The step of a claim: exchanges the set for one without its lowest worker, and answers that
     /// worker. Err with the set that was found where it isn't `seen`, and nothing changes then. The
-    /// caller must have seen a worker, and hold a search count.
+    /// caller must give a seat of this set, which holds a count, and a set that isn't empty.
     #[tactic(auto, using(crate::proofs::Allowed::claim_, crate::proofs::Sets::lowest_in))]
     pub fn claim_exchange(&self, seat: &mut IdleSeat, seen: u64) -> Result<usize, u64>
         requires at { IsSeatOf self.now seat.old }
@@ -175,7 +191,7 @@ impl Idle {
         }
     }
 
-    /// Loads the set, as a word.
+    /// Loads the set, as a word. The caller must give a seat of this set.
     pub fn look(&self, seat: &mut IdleSeat) -> u64
         requires { IsSeatOf self.now seat.old }
         ensures { Becomes seat.old seat.new (looked (knows seat.old) result) }
@@ -183,7 +199,7 @@ impl Idle {
         self.shared().load::<Look>(&mut seat.place, SET)
     }
 
-    /// Loads the search count.
+    /// Loads the search count. The caller must give a seat of this set.
     pub fn count(&self, seat: &mut IdleSeat) -> u64
         requires { IsSeatOf self.now seat.old }
         ensures { Becomes seat.old seat.new (counted (knows seat.old) result) }
@@ -191,7 +207,8 @@ impl Idle {
         self.shared().load::<Read>(&mut seat.place, COUNT)
     }
 
-    /// Adds a search count, which the seat holds then. It must hold at most one before.
+    /// Adds a search count, which the seat holds then. The caller must give a seat of this set, which
+    /// holds at most one.
     pub fn add(&self, seat: &mut IdleSeat)
         requires at { IsSeatOf self.now seat.old }
         requires room { (knows seat.old).held < 2 }
@@ -200,7 +217,8 @@ impl Idle {
         self.shared().fetch_add::<Add>(&mut seat.place, COUNT, 1);
     }
 
-    /// Returns a search count, and answers whether this was the last. The seat must hold one.
+    /// Returns a search count, and answers whether this was the last. The caller must give a seat of
+    /// this set, which holds one.
     pub fn subtract(&self, seat: &mut IdleSeat) -> bool
         requires at { IsSeatOf self.now seat.old }
         requires holds { 0 < (knows seat.old).held }
@@ -213,8 +231,8 @@ impl Idle {
         found == 1
     }
 
-    /// Adds a search count where there is none, and answers whether it did. The seat must hold at
-    /// most one before.
+    /// Adds a search count where there is none, and answers whether it did. The caller must give a
+    /// seat of this set, which holds at most one.
     #[tactic(auto, using(crate::proofs::Allowed::begin_))]
     pub fn add_first(&self, seat: &mut IdleSeat) -> bool
         requires at { IsSeatOf self.now seat.old }

@@ -1,5 +1,5 @@
-//! The transitions by which the steps are described are those of `exec_words`' `PureIdle`, each by
-//! its name: each law calls it.
+//! The transitions by which the plays describe the steps are what calls of `exec_words`' `PureIdle`
+//! do: each law makes one call. A claim is a withdrawal, and the exchange of the count an addition.
 
 ghost use Rattle.std.specs.Prelude.{◌≡◌, ◌+◌, ◌^◌, ◌<◌, ◌↔◌, IsOk, IfOk, OnOk, IfErr, OnErr, Some, IsSome};
 ghost use Rattle.exec_words.specs.Idle.{is_in, lowest_of};
@@ -7,7 +7,7 @@ ghost use Rattle.exec_live_idle.specs.Words.{publish, withdraw, add, subtract};
 
 use exec_words::idle::{PureIdle, WorkerSet};
 
-/// A publication sets the worker's bit, and nothing else.
+/// A publication sets the worker's bit, and nothing else. The caller must name a number below 64.
 pub fn a_publication(idle: &mut PureIdle, worker: usize)
     requires { worker < 64 }
     ensures { idle.new ≡ publish worker idle.old }
@@ -15,7 +15,8 @@ pub fn a_publication(idle: &mut PureIdle, worker: usize)
     idle.publish(worker);
 }
 
-/// A withdrawal clears the worker's bit, and answers whether it was there.
+/// A withdrawal clears the worker's bit, and answers whether it was there. The caller must name a
+/// number below 64.
 pub fn a_withdrawal(idle: &mut PureIdle, worker: usize) -> bool
     requires { worker < 64 }
     ensures found { result ≡ is_in idle.old.published worker }

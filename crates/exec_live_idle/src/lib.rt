@@ -2,17 +2,17 @@
 //!
 //! A pool shares two words. The set has a bit for each worker that is published: about to sleep, or
 //! asleep, and not claimed yet. The count is how many search counts there are: each is the duty to
-//! look for work, or to hand that duty on. Threads change the two words in single atomic steps, each
-//! of which is the transition of the same name of `exec_words`' `PureIdle`. The rule that every step
-//! keeps is `specs/Live.antt`, which begins with a page on what each word means, who may do what,
-//! and why no count is lost.
+//! look for work, or to hand that duty on. Threads load or change one of the two words in single
+//! atomic steps; `idle` has a table of which call of `exec_words`' `PureIdle` each step is. The rule
+//! that every step keeps is `specs/Live.antt`, which begins with a page on what each word means, who
+//! may do what, and why no count is lost.
 //!
 //! - `seat`, `idle`: an idle set, a seat at it, and the calls that are one atomic step, or a claim.
 //! - `notify`: how a worker is woken for a backlog, or for a push into the global queue.
 //! - `searcher`, `park`: a worker's part in searching and parking, over what `backlog` says of its
 //!   pool.
 //! - `view`, `plays`: what a seat knows, and what each step tells it, for the proofs alone.
-//! - `laws`: the steps' transitions are those of `PureIdle`. `examples`: worked examples.
+//! - `laws`: what the plays say that a step does is what its call of `PureIdle` does. `examples`: worked examples.
 #![tactic(auto)]
 
 pub mod backlog;

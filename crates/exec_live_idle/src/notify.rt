@@ -32,7 +32,8 @@ pub trait Rouse {
 impl Idle {
     /// Wakes a published worker for a backlog of a run queue, unless there is a search count: whoever
     /// holds one finds the backlog, or hands the duty on. The worker that is woken holds a count. It may
-    /// wait, as a claim does. The caller must hold at most one count.
+    /// wait, as a claim does. The caller must give a seat of this set, which holds at most one count,
+    /// and what can wake all its workers.
     pub fn notify<R: Wait, W: Rouse>(&self, rt: &R, seat: &mut IdleSeat, rouse: &mut W)
         requires at { IsSeatOf self.now seat.old }
         requires room { (knows seat.old).held < 2 }
@@ -74,8 +75,8 @@ impl Idle {
     }
 
     /// Wakes a published worker for a push into the global queue, also while others search. The
-    /// worker that is woken holds a count. It may wait, as a claim does. The caller must hold at most
-    /// one count.
+    /// worker that is woken holds a count. It may wait, as a claim does. The caller must give a seat of
+    /// this set, which holds at most one count, and what can wake all its workers.
     pub fn notify_global<R: Wait, W: Rouse>(&self, rt: &R, seat: &mut IdleSeat, rouse: &mut W)
         requires at { IsSeatOf self.now seat.old }
         requires room { (knows seat.old).held < 2 }

@@ -19,7 +19,8 @@ use std::sync::Wait;
 
 impl<'a> Searcher<'a> {
     /// Returns the search count, if the worker holds one. Where this was the last, the duty to
-    /// search is handed on by a kick, which may wait. The caller must have ended a publication.
+    /// search is handed on by a kick, which may wait. The caller must have ended a publication, and
+    /// give the backlog of a pool of as many workers as the idle set's.
     pub fn leave_search<R: Wait, B: Backlog>(&mut self, rt: &R, backlog: &mut B)
         requires unpublished { (knows self.old.seat).published ≡ false }
         requires pool { B.pool backlog.old ≡ (knows self.old.seat).workers }
@@ -46,8 +47,8 @@ impl<'a> Searcher<'a> {
     ///   published: the caller ends that by `finish_park`, also after a wait that doesn't block.
     /// - `Search`: another run queue can be stolen from. The worker is withdrawn, and holds a count.
     ///
-    /// The looks and the kick may wait. The caller must have ended a publication, and the worker's own
-    /// run queue must be empty.
+    /// The looks and the kick may wait. The caller must have ended a publication, and give the backlog
+    /// of a pool of as many workers as the idle set's; the worker's own run queue must be empty.
     pub fn prepare_park<R: Wait, B: Backlog>(&mut self, rt: &R, backlog: &mut B) -> Park
         requires unpublished { (knows self.old.seat).published ≡ false }
         requires pool { B.pool backlog.old ≡ (knows self.old.seat).workers }
@@ -104,8 +105,8 @@ impl<'a> Searcher<'a> {
     /// Publishes the worker and looks once more, and searches whenever the look asks for it, until a
     /// search moves values or a look asks for none. True leaves the worker withdrawn: it runs again,
     /// perhaps with a count. False leaves it published, to wait. The call itself may wait, and nothing
-    /// bounds how often it looks. The caller must have ended a publication, and the worker's own run
-    /// queue must be empty.
+    /// bounds how often it looks. The caller must have ended a publication, and give the backlog of a
+    /// pool of as many workers as the idle set's; the worker's own run queue must be empty.
     pub fn publish_and_look<R: Wait, B: Backlog>(&mut self, rt: &R, backlog: &mut B) -> bool
         requires unpublished { (knows self.old.seat).published ≡ false }
         requires pool { B.pool backlog.old ≡ (knows self.old.seat).workers }
@@ -140,8 +141,8 @@ impl<'a> Searcher<'a> {
     }
 
     /// Withdraws the worker once its wait is over, before it runs anything else. Where a claim took
-    /// it, it holds the claimer's count. The caller must have published the worker: `prepare_park`
-    /// answered `Wait`.
+    /// it, it holds the claimer's count. The caller must have published the worker, and hold no count:
+    /// `prepare_park` answered `Wait`.
     pub fn finish_park(&mut self)
         requires published { (knows self.old.seat).published ≡ true }
         requires free { (knows self.old.seat).held ≡ 0 }

@@ -74,7 +74,7 @@ impl<'a> Searcher<'a> {
     /// the worker's own. Answers whether it moved any. A worker that holds no count takes one first,
     /// unless half of the workers search already; it stays held until the worker leaves the search
     /// or parks. One worker alone doesn't search. It may wait, where a steal does. The caller must have
-    /// ended a publication.
+    /// ended a publication, and give the backlog of a pool of as many workers as the idle set's.
     pub fn search<R: Wait, B: Backlog>(&mut self, rt: &R, backlog: &mut B) -> bool
         requires unpublished { (knows self.old.seat).published ≡ false }
         requires pool { B.pool backlog.old ≡ (knows self.old.seat).workers }

@@ -9,7 +9,8 @@ use crate::steps::{publish, take_room};
 use crate::view::{Place, Words};
 use exec_words::reserved::Reserved;
 
-/// Publishes a batch behind the other values. The caller must have seen room for all of it.
+/// Publishes a batch behind the other values. The caller must give the owner's seat at rest, and its
+/// tail, and have seen room for all of it.
 pub fn push_batch<T>(words: &Words<T>, seat: &mut Place<T>, tail: u64, batch: &mut Reserved<T>)
     requires rests { Rests words.now seat.old }
     requires tail { tail ≡ seat.old.me.0.own.tail }

@@ -1,7 +1,7 @@
 //! The owner of a queue that no thief gets at: a plain queue, none of whose calls takes an atomic step.
 //!
-//! Each call is the transition of the same name of `exec_words`' `PureQueue`, in one action. What a
-//! contract sees is that queue, and the values that an overflow still has to hand out.
+//! Each call that changes the queue is one of `exec_words`' `PureQueue`, in one action: `pop`, `push`, and `publish` for
+//! a batch. What a contract sees is that queue, and the values that an overflow still has to hand out.
 
 ghost use Rattle.std.specs.Prelude.{◌≡◌, ◌+◌, ◌^◌, ◌≤◌, [], length, drop, slice_get, IfOk, IfNone, IfSome};
 ghost use Rattle.exec_words.specs.Queue.{room_of, fit_of, push_answer, after_push, handed_out, published};
@@ -109,7 +109,8 @@ impl<T> ExclusiveOwner<T> {
         self.hand.len()
     }
 
-    /// Publishes a batch behind the other values. The caller must have room for all of it.
+    /// Publishes a batch behind the other values. The caller must have room for all of it, and be in
+    /// the middle of no overflow.
     pub fn push_batch(&mut self, batch: &mut Reserved<T>)
         requires whole { self.old.handed ≡ [] }
         requires room { length batch.old.values ≤ room_of self.old.queue }

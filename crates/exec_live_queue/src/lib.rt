@@ -7,9 +7,21 @@
 //! it lies in the slot `label % 256`. One seat at the table is the owner's: only its holder pushes and pops. Each
 //! other seat is a thief's.
 //!
-//! Each step here is the transition of the same name of `exec_words`' `PureQueue`. The rule that
-//! every step keeps is `specs/Live.antt`, which begins with a page on what each word means, who may
-//! do what, and why no value is lost or handed out twice.
+//! Each step here is a call of `exec_words`' `PureQueue`; what one that changes a word does to the queue its play says
+//! (`specs/Plays.antt`). An exchange that is lost is a load of the head.
+//!
+//! | Step | Call of `PureQueue` |
+//! |---|---|
+//! | `look`, `see_head` | `head` |
+//! | `take_one`, `take_room`, `give_back` | `head`, and free slots go out with the owner or come back |
+//! | `see_tail` | `tail` |
+//! | `pop_exchange`, `pop_last` | those of the same name |
+//! | `publish` | `push_fitting` for one value, `publish` for several |
+//! | `flow_over`, `restore` | `overflow_exchange`, `restore` |
+//! | `claim`, `release` | `claim_exchange`, `release_exchange` |
+//!
+//! The rule that every step keeps is `specs/Live.antt`, which begins with a page on what each word means, who may do
+//! what, and why no value is lost or handed out twice.
 //!
 //! - `queue` and `owner`: a queue of either kind with its seats, and its owner.
 //! - `lent`: what a push answers, and what reads an overflow.

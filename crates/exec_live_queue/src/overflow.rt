@@ -8,8 +8,8 @@ use crate::slots::take;
 use crate::steps::give_back;
 use crate::view::{Place, Words};
 
-/// Hands out the next value, and gives the slots back behind the last one. The caller must be in the
-/// middle of an overflow, of which so many values are left.
+/// Hands out the next value, and gives the slots back behind the last one. The caller must give the
+/// owner's seat in the middle of an overflow, its tail, and how many values are left: one at least.
 pub fn hand_out<T>(words: &Words<T>, seat: &mut Place<T>, tail: u64, left: u64) -> T
     requires stands { Stands words.now seat.old tail left }
     requires more { 0 < left }

@@ -118,7 +118,8 @@ impl<T> Owner<T> {
     ghost use Rattle.exec_live_queue.specs.Lent.{Lends, pushed_to};
     ghost use Rattle.exec_live_queue.specs.Kinds.{Does, Looks, IsDrained, IsPushed, count, handed, room, handed_by};
 
-    /// How many values the queue has, by the head that this call loads.
+    /// How many values the queue has, by the head that this call loads. The caller must be in the
+    /// middle of no overflow.
     pub fn len(&mut self) -> usize
         requires whole { handed self.old ≡ [] }
         ensures whole { handed self.new ≡ [] }
@@ -134,7 +135,8 @@ impl<T> Owner<T> {
         }
     }
 
-    /// The front value, or None where the queue was empty at its step.
+    /// The front value, or None where the queue was empty at its step. The caller must be in the
+    /// middle of no overflow.
     #[inline(always)]
     pub fn pop(&mut self) -> Option<T>
         requires whole { handed self.old ≡ [] }
@@ -148,7 +150,8 @@ impl<T> Owner<T> {
         }
     }
 
-    /// How many more values fit, by the head that this call loads. 0 where the queue is spent.
+    /// How many more values fit, by the head that this call loads. 0 where the queue is spent. The
+    /// caller must be in the middle of no overflow.
     pub fn room(&mut self) -> usize
         requires whole { handed self.old ≡ [] }
         ensures whole { handed self.new ≡ [] }
@@ -167,7 +170,8 @@ impl<T> Owner<T> {
         }
     }
 
-    /// Whether the queue has no value, by the head that this call loads.
+    /// Whether the queue has no value, by the head that this call loads. The caller must be in the
+    /// middle of no overflow.
     pub fn is_empty(&mut self) -> bool
         requires whole { handed self.old ≡ [] }
         ensures whole { handed self.new ≡ [] }
@@ -182,7 +186,7 @@ impl<T> Owner<T> {
     }
 
     /// Publishes a value behind the others. A full queue without a claim flows over: the owner is lent
-    /// to what hands its newest half out.
+    /// to what hands its newest half out. The caller must be in the middle of no other overflow.
     #[inline(always)]
     pub fn push<'a>(&'a mut self, value: T) -> Push<'a, T>
         requires whole { handed self.old ≡ [] }
@@ -242,7 +246,7 @@ impl<T> Owner<T> {
     }
 
     /// Publishes a batch behind the other values, by one store of the tail. The caller must have
-    /// seen room for all of it, by `room`.
+    /// seen room for all of it, by `room`, and be in the middle of no overflow.
     pub fn push_batch(&mut self, batch: &mut Reserved<T>)
         requires whole { handed self.old ≡ [] }
         requires room { length batch.old.values ≤ room self.old }

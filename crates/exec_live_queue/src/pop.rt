@@ -25,7 +25,8 @@ fn carry_off<T>(words: &Words<T>, seat: &mut Place<T>, real: u64) -> T
 }
 
 /// The value at the front, or None where the queue was empty at its step. Each time that a thief
-/// was faster, twice the values that are left, and one beside a claim, are fewer than before.
+/// was faster, twice the values that are left, and one beside a claim, are fewer than before. The
+/// caller must give the owner's seat at rest, and its tail.
 #[inline(always)]
 pub fn pop<T>(words: &Words<T>, seat: &mut Place<T>, tail: u64) -> Option<T>
     requires rests { Rests words.now seat.old }

@@ -12,7 +12,8 @@ use exec_words::SPENT;
 use exec_words::queue::PushAnswer;
 
 /// Publishes a value behind the others, by at most two tries: a head that has changed since the
-/// first leaves room for the value, or has a claim.
+/// first leaves room for the value, or has a claim. The caller must give the owner's seat at rest,
+/// and its tail.
 #[inline(always)]
 pub fn push<T>(words: &Words<T>, seat: &mut Place<T>, tail: u64, value: T) -> PushAnswer<T>
     requires rests { Rests words.now seat.old }
@@ -29,7 +30,7 @@ pub fn push<T>(words: &Words<T>, seat: &mut Place<T>, tail: u64, value: T) -> Pu
         Err(value) => match try_push(words, seat, tail, value) {
             Ok(push) => push,
             // No second try misses.
-            Err(value) => PushAnswer::Claimed(value),
+            Err(_) => unreachable!(),
         },
     }
 }

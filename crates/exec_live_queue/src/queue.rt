@@ -143,8 +143,9 @@ impl<T> Queue<T> {
         }
     }
 
-    /// The owner, for the first seat of this queue as it was made. Err where no more handles fit,
-    /// and at an exclusive queue where no memory is left.
+    /// The owner, for the first seat of this queue. The caller must give the very seat that this
+    /// queue was made with. Err where no more handles fit, and at an exclusive queue where no memory
+    /// is left.
     pub fn owner(&self, first: QueueSeat<T>) -> Result<Owner<T>, AllocError>
     where
         T: Drop,
@@ -167,7 +168,8 @@ impl<T> Queue<T> {
     }
 
     /// Whether a thief may claim half of the values, by the head and the tail that this call loads:
-    /// no claim is held, and there are two values at least.
+    /// no claim is held, and there are two values at least. The caller must give a thief's seat at this
+    /// queue, which is shared then.
     pub fn is_stealable(&self, seat: &mut QueueSeat<T>) -> bool
         requires seat { IsThief self.now seat.old }
         ensures same { IsThief self.now seat.new }
@@ -184,7 +186,7 @@ impl<T> Queue<T> {
         }
     }
 
-    /// Loads the head, by a thief's seat.
+    /// Loads the head. The caller must give a thief's seat at this queue, which is shared then.
     pub fn head(&self, seat: &mut QueueSeat<T>) -> Head
         requires seat { IsThief self.now seat.old }
         ensures same { IsThief self.now seat.new }
@@ -209,7 +211,8 @@ impl<T> Queue<T> {
     /// One try of a steal: half of the values of this queue, rounded down, move to the end of the thief's own queue,
     /// in order. `Nothing` where the own queue is exclusive, spent, or has fewer than 128 places free, where another
     /// claim is held, and where this queue has fewer than two values; `Again` where the head has changed since it was
-    /// loaded. The seat must be a thief's at this queue.
+    /// loaded. The caller must give a thief's seat at this queue, which is shared then, and be in the middle of no
+    /// overflow of the own queue.
     pub fn steal_once(&self, seat: &mut QueueSeat<T>, into: &mut Owner<T>) -> Steal
         requires seat { IsThief self.now seat.old }
         requires whole { handed into.old ≡ [] }
@@ -219,7 +222,7 @@ impl<T> Queue<T> {
         self.steal_paused(seat, into, &mut NoPause)
     }
 
-    /// The same, and the thief is held up between its claim and its release.
+    /// The same, and the thief is held up between its claim and its release. The caller must give what it must there.
     pub fn steal_paused<P: Pause>(
         &self,
         seat: &mut QueueSeat<T>,
@@ -252,6 +255,8 @@ impl<T> Queue<T> {
     }
 
     /// Steals until a try doesn't find that the head has changed since it was loaded. Answers how many values moved.
+    /// The caller must give a thief's seat at this queue, which is shared then, and be in the middle of no overflow of
+    /// the own queue.
     pub fn steal_into<R: Wait>(&self, rt: &R, seat: &mut QueueSeat<T>, into: &mut Owner<T>) -> usize
         requires seat { IsThief self.now seat.old }
         requires whole { handed into.old ≡ [] }

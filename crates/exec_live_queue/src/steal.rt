@@ -43,7 +43,8 @@ pub(crate) struct Aim {
     pub(crate) count: u64,
 }
 
-/// One try of a steal. `tail` is that of the thief's own queue.
+/// One try of a steal. The caller must give a thief's seat at the other queue, which holds no claim,
+/// and the owner's seat of its own queue at rest, and the tail of that.
 pub fn steal_once<T, P: Pause>(
     source: &Words<T>,
     from: &mut Place<T>,
@@ -85,7 +86,8 @@ pub fn steal_once<T, P: Pause>(
     Steal::Moved(aim.count as usize)
 }
 
-/// Loads head and tail. None where a claim is held, or there are fewer than two values.
+/// Loads head and tail. None where a claim is held, or there are fewer than two values. The seat must
+/// be a thief's that holds no claim.
 pub(crate) fn take_aim<T>(source: &Words<T>, from: &mut Place<T>) -> Option<Aim>
     requires source { (IsAt source.now from.old) × IsThief from.old.me }
     ensures same { SameSeat from.old from.new }

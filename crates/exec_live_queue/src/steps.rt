@@ -1,8 +1,8 @@
 //! The steps of a queue's owner, one atomic step each.
 //!
-//! A step names the table and the owner's seat. `Tells` says that the seat is the same, and what the
-//! step told it. Each takes the seat as the step before it left it: at rest, nothing is out with the
-//! owner, and no overflow is under way.
+//! A step names the table and the owner's seat there. `Tells` says that the seat is the same, and what
+//! the step told it. Each takes the seat as the step before it left it: at rest, nothing is out with
+//! the owner, and no overflow is under way.
 
 ghost use Rattle.std.specs.Prelude.{◌≡◌, ◌+◌, ◌^◌, ◌<◌, ◌≤◌, min};
 ghost use Rattle.exec_live_queue.specs.{Plays.{flows_over, laid, pops, pops_last, publishes, restores, returned}, Seats.{Rests, HasEmptied, HasFilled, FlowsOver, IsSeen, Tells}};
@@ -12,7 +12,7 @@ use crate::plays::{FlowOver, GiveBack, Look, Pop, PopLast, Publish, Restore, Tak
 use crate::view::{Place, Words};
 use crate::{HEAD, SLOTS, TAIL};
 
-/// Loads the head.
+/// Loads the head. The seat must be the owner's at rest.
 pub fn look<T>(words: &Words<T>, seat: &mut Place<T>) -> u64
     requires { Rests words.now seat.old }
     ensures seen { IsSeen seat.new.me.0.own result }
@@ -21,7 +21,8 @@ pub fn look<T>(words: &Words<T>, seat: &mut Place<T>) -> u64
     words.load::<Look>(seat, HEAD)
 }
 
-/// Loads the head, and takes the free slot behind the tail, if there is one.
+/// Loads the head, and takes the free slot behind the tail, if there is one. The seat must be the
+/// owner's at rest.
 pub fn take_one<T>(words: &Words<T>, seat: &mut Place<T>) -> u64
     requires { Rests words.now seat.old }
     ensures seen { IsSeen seat.new.me.0.own result }
@@ -30,7 +31,7 @@ pub fn take_one<T>(words: &Words<T>, seat: &mut Place<T>) -> u64
     words.load::<TakeOne>(seat, HEAD)
 }
 
-/// Loads the head, and takes all free slots.
+/// Loads the head, and takes all free slots. The seat must be the owner's at rest.
 pub fn take_room<T>(words: &Words<T>, seat: &mut Place<T>) -> u64
     requires { Rests words.now seat.old }
     ensures seen { IsSeen seat.new.me.0.own result }
@@ -49,7 +50,8 @@ pub fn give_back<T>(words: &Words<T>, seat: &mut Place<T>) -> u64
 }
 
 /// Pops the front value by an exchange of the head that was `seen`, and answers the head that it
-/// found: `seen`, where it popped. The caller must have seen a value.
+/// found: `seen`, where it popped. The seat must be the owner's at rest, and `seen` the head that it
+/// saw last, with a value.
 pub fn pop_exchange<T>(words: &Words<T>, seat: &mut Place<T>, seen: u64) -> u64
     requires rests { Rests words.now seat.old }
     requires seen { IsSeen seat.old.me.0.own seen }
@@ -62,7 +64,8 @@ pub fn pop_exchange<T>(words: &Words<T>, seat: &mut Place<T>, seen: u64) -> u64
     words.compare_exchange::<Pop>(seat, HEAD, seen, next)
 }
 
-/// Pops a lone value by a store of the head. The caller must have seen one value, and no claim.
+/// Pops a lone value by a store of the head. The seat must be the owner's at rest, and `seen` the head
+/// that it saw last, with one value and no claim.
 pub fn pop_last<T>(words: &Words<T>, seat: &mut Place<T>, seen: u64)
     requires rests { Rests words.now seat.old }
     requires seen { IsSeen seat.old.me.0.own seen }
@@ -74,7 +77,8 @@ pub fn pop_last<T>(words: &Words<T>, seat: &mut Place<T>, seen: u64)
 }
 
 /// Begins an overflow by an exchange of the head that was `seen`, and answers the head that it found: `seen`, where
-/// it began. The caller must have seen a full queue without a claim, which isn't spent.
+/// it began. The seat must be the owner's at rest, and `seen` the head that it saw last, of a full queue without a claim,
+/// which isn't spent.
 #[cold]
 #[inline(never)]
 pub fn flow_over<T>(words: &Words<T>, seat: &mut Place<T>, seen: u64) -> u64
@@ -90,7 +94,8 @@ pub fn flow_over<T>(words: &Words<T>, seat: &mut Place<T>, seen: u64) -> u64
 }
 
 /// Shows the values that the owner wrote behind the others, by a store of the tail that is one past
-/// the last of them, and gives back the slots that it left empty.
+/// the last of them, and gives back the slots that it left empty. The caller must give that tail, and
+/// have filled the slots behind the others in order, in the middle of no overflow.
 pub fn publish<T>(words: &Words<T>, seat: &mut Place<T>, tail: u64)
     requires { HasFilled words.now seat.old tail }
     ensures { Tells publishes seat.old 0 0 seat.new }
@@ -98,7 +103,8 @@ pub fn publish<T>(words: &Words<T>, seat: &mut Place<T>, tail: u64)
     words.store::<Publish>(seat, TAIL, tail);
 }
 
-/// Ends an overflow: shows the half that was kept aside, by a store of the tail that is one past the last of it.
+/// Ends an overflow: shows the half that was kept aside, by a store of the tail that is one past the last of it. The
+/// caller must have begun one, and give that tail.
 pub fn restore<T>(words: &Words<T>, seat: &mut Place<T>, tail: u64)
     requires flows_over { FlowsOver words.now seat.old }
     requires tail { tail ≡ seat.old.me.0.own.tail + 128 }

@@ -43,7 +43,8 @@ pub fn claim<T>(words: &Words<T>, seat: &mut Place<T>, seen: u64, count: u64) ->
 }
 
 /// Releases the claim by an exchange of the head that was `seen`, and answers the head that it
-/// found: `seen`, where it released.
+/// found: `seen`, where it released. The caller must hold a claim, have emptied its slots, and give as
+/// `seen` the head behind the claim, with the gap that the thief knows.
 pub fn release<T>(words: &Words<T>, seat: &mut Place<T>, seen: u64) -> u64
     requires may { MayRelease words.now seat.old }
     requires seen { seen ≡ head_word (seat.old.me.0.theft.at + seat.old.me.0.theft.gap) seat.old.me.0.theft.gap }
@@ -54,7 +55,7 @@ pub fn release<T>(words: &Words<T>, seat: &mut Place<T>, seen: u64) -> u64
     words.compare_exchange::<Release>(seat, HEAD, seen, next)
 }
 
-/// A seat for one more thief, split off any seat.
+/// A seat for one more thief, split off any seat at this table.
 pub fn another<T>(words: &Words<T>, seat: &mut Place<T>) -> Place<T>
     requires { IsAt words.now seat.old }
     ensures same { (SameSeat seat.old seat.new) × (seat.new.me ≡ seat.old.me) }

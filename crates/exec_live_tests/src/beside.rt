@@ -15,10 +15,10 @@ use std::test::Fail;
 use std::thread::join;
 
 /// How often a thread looks for a flag before it goes on without it.
-const TURNS: u64 = 1 << 28;
+pub const TURNS: u64 = 1 << 26;
 
 /// Whether the flag was seen.
-fn saw(flag: &AtomicU64) -> bool {
+pub fn saw(flag: &AtomicU64) -> bool {
     for _ in 0..TURNS {
         if flag.load(Ordering::SeqCst) == 1 {
             return true;

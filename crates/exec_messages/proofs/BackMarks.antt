@@ -171,7 +171,7 @@ module _ {B : Type 0} where
       let due : IsDue None w.home.closing i w.moments s.config w.names d zs rs' ss = due_marked f rs q marks None i w.moments s.config w.names w.names d zs ss sound.due in
       let flown : HasFlown None i w.names d rs' = flown_marked f marks None i w.names w.names d rs q sound.flown refl refl refl (omega arith) refl (λ y at h. released y ∙ sound.flown.owning q y at h) in
       let carried : IsCarried w.names.requests.items d.requests d.ring rs' s.store =
-      carried_marked w.names.requests.items d.requests d.ring rs s.store sound.carried q f (λ y at. ap (λ v. v.shown.operation) (marks y)) (λ y at. ap (λ v. v.shown.phase) (marks y)) in
+      carried_marked w.names.requests.items d.requests d.ring rs s.store sound.carried q f (λ y at. ap (λ v. v.shown.operation) (marks y)) (λ y at. ap (λ v. v.shown.phase) (marks y)) (λ y at. released y) in
       let on : AreOn rs rs' = marked_on f marks released rs q in
       let stay : SleepOn ss ss = λ k z at. (z, at, refl) in
       let mine : (m : Mail) → Contains w.batch.values m → IsMyMail s.config.workers i m rs' ss = λ m has. mail_on rs rs' ss ss on stay s.config.workers i m (sound.mine m has) in

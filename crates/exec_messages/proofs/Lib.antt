@@ -1,3 +1,4 @@
+pub mod GivenBack
 pub mod MailFrees
 pub mod MailOwes
 pub mod BackMarks

@@ -187,7 +187,7 @@ module _ {B : Type 0} (k : ℕ) (w v : Worker) (s s' : Shared B) (idle : served_
       let timed = timed_gone i ns d zs rs ss q r at apart due.timed in
       let due_now = subst (λ x. IsDue x w.home.closing i w.moments s.config ns d zs (changed_at rs q forward_applied) ss) (sym idle) (assumption (timed, due)) in
       let flown_now = subst (λ x. HasFlown x i ns d (changed_at rs q forward_applied)) (sym idle) (flown_gone i ns d zs rs ss q r at apart flown) in
-      let carried = carried_marked n d.requests d.ring rs s.store keeps.carried q forward_applied (λ y there. refl) (λ y there. refl) in
+      let carried = carried_marked n d.requests d.ring rs s.store keeps.carried q forward_applied (λ y there. refl) (λ y there. refl) (λ y there. refl) in
       let known = known_marked i n d.requests s.opens s.opens rs q forward_applied (λ y. record { id = refl; worker = refl; kind = refl; target = refl; unrefused = λ h. h }) (λ file h. h) keeps.known in
       assumption (named_gone i ns d zs rs ss q r at apart keeps.named, over_gone i ns d zs rs ss q r at apart ns.ended.items ns.unreleased (pending_count d.requests) keeps.over, quiet, due_now, flown_now, carried, known, keeps)
 

@@ -10,7 +10,8 @@ use Rattle.exec_moves.specs.{declared.{handing.AfterCallbacks.AfterCallbacks, pl
 use Rattle.exec_parts.{specs.{Calls.{releasing, IsTold}, Phased.{IsPhased, stage_of}, Records.number_in, Serving.{changed_at, changed_in}, Spots.Spot, Tests.{after_callbacks_of, is_anything_told, next_callback_of}, View.{common_of, desk_of, driver_of, own_of, things_with, visible, with_view}, declared.parts.{mail.{Reply.Reply, Subject.Subject}, names.Names.Names, record.Record.Record, seat.Seat.Seat as Chair, shared.Shared.Shared, sleeping.SleeperRecord.SleeperRecord, worker.Worker.Worker}}, proofs.Facts.{true_false, not_same}}
 use Rattle.exec_moves.specs.Seen.{left_before}
 use Rattle.exec_invariants.proofs.Showing.{map_kept}
-use Rattle.exec_invariants.{specs.{Carried.{HasRoom, IsCarried}, Due.IsDue, Flown.HasFlown, Gates.{AreLinedUp, HaveGates, IsKnown}, HoldPlaces.spare_before, Holding.{Mail, IsAnswerOf, IsHolding, box_of, holder_of, nap_of, thing_of}, Places.{one_if, searches_before}, Rooted.{IsKept, IsReplyFor, IsRooted, Pays, StandsAt, goes_elsewhere, results_of}, Sound.{AreOver, HasLetters, IsMyMail, IsSearching, SoundAt, has_wakes_at}, Names.{HasWidth, IsNamed, tellers}, Whole.{IsWhole, hands_of, with_worker}, Works.{Beside, Steps, Suits}}, proofs.{Aside.{SameProfile, profile_same}, CallsBack.{after_seen, callbacks_seen}, Carries.carried_marked, Flown.flown_marked, Hearing.unheard, Idled.Fares, Known.known_marked, Lined.{SameAtGate, gates_kept, gates_seen_same, lined_kept, opens_same, passing_same}, MailBack.{Rests, goes_next, idle_before, next_fares, next_sound, rests_next, stance}, Marking.{due_marked, mark_if, mark_kept, marked, named_marked, releases, was_marked}, Phased.phased_count, Recorded.request_seen, Seeing.common_changed, Serving.{SparesRecords, letter_kept, mail_kept, spares_one, spares_service}, Turning.view_found}}
+use Rattle.exec_invariants.{specs.{Carried.{HasRoom, IsCarried}, Due.IsDue, Flown.HasFlown, Gates.{AreLinedUp, HaveGates, IsKnown}, HoldPlaces.spare_before, Holding.{Mail, IsAnswerOf, IsHolding, box_of, holder_of, nap_of, thing_of}, Places.{one_if, searches_before}, Rooted.{IsKept, IsReplyFor, IsRooted, Pays, StandsAt, goes_elsewhere, results_of}, Sound.{AreOver, HasLetters, IsMyMail, IsSearching, SoundAt, has_wakes_at}, Names.{HasWidth, IsNamed, tellers}, Whole.{IsWhole, hands_of, with_worker}, Works.{Beside, Steps, Suits}}, proofs.{Aside.{SameProfile, profile_same}, CallsBack.{after_seen, callbacks_seen}, Carries.carried_room, Flown.flown_marked, Hearing.unheard, Idled.Fares, Known.known_marked, Lined.{SameAtGate, gates_kept, gates_seen_same, lined_kept, opens_same, passing_same}, MailBack.{Rests, goes_next, idle_before, next_fares, next_sound, rests_next, stance}, Marking.{due_marked, mark_if, mark_kept, marked, named_marked, releases, was_marked}, Phased.phased_count, Recorded.request_seen, Seeing.common_changed, Serving.{SparesRecords, letter_kept, mail_kept, spares_one, spares_service}, Turning.view_found}}
+use Rattle.exec_messages.{specs.Rooms.GivesBack, proofs.GivenBack.{room_back, room_then, steps_given}}
 
 -- OF RECORDS, one of which lets go
 
@@ -99,7 +100,8 @@ module _ {B : Type 0} where
     pub told : (live : ℕ) → IsTold w.names.ended.items w.home.deferred live → IsTold w'.names.ended.items w'.home.deferred live
     pub worker : w' ≡ record w { place = w'.place; names = record w.names { ended = w'.names.ended; unreleased = w'.names.unreleased }; home = record w.home { deferred = record w.home.deferred { resources = w'.home.deferred.resources } } }
     pub requests : s'.requests.items ≡ changed_at s.requests.items n releasing
-    pub kept : s' ≡ record s { requests = s'.requests }
+    pub kept : s' ≡ record s { requests = s'.requests; store = s'.store }
+    pub back : (r : Record) → slice_get s.requests.items n ≡ Some r → GivesBack r.shown.operation s.store s'.store
 
   pub spares_release : (c : AfterCallbacks) (n : ℕ) (w w' : Worker) (s s' : Shared B) → SoundAt (Place.Callbacks InCallbacks.CallBack c) w s → HasReleased n w w' s s' → SparesRecords w.index s (record s { requests = s'.requests })
   spares_release c n w w' s s' sound it =
@@ -151,7 +153,7 @@ module _ {B : Type 0} where
       let flown : HasFlown None w.index names d rs' = subst (λ xs. HasFlown None w.index names d xs) (sym it.requests)
       (flown_marked releasing releases None w.index w.names names d rs n sound.flown refl refl refl (omega (arith, it.unreleased)) it.capacity (λ r there h. absurd (false≢true (sym h ∙ ap (λ y. is_resolved y.shown.phase) (same_record r found.0 (sym there ∙ found.1)) ∙ found.3.0)))) in
       let carried : IsCarried w.names.requests.items d.requests d.ring rs' s.store = subst (λ xs. IsCarried w.names.requests.items d.requests d.ring xs s.store) (sym it.requests)
-      (carried_marked w.names.requests.items d.requests d.ring rs s.store sound.carried n releasing (λ r there. refl) (λ r there. refl)) in
+      (carried_room w.names.requests.items d.requests d.ring rs s.store sound.carried n releasing s.store (λ r there. refl) (λ r there. refl) (room_then rs n found.0 s.store found.1 found.3.0 sound.carried.room) (λ file offset m has. has)) in
       let phased : (chair : Chair) → slice_get s.seats.items w.index ≡ Some chair → IsPhased w.index (left_before c) None w.home.closing w.root w'.names.unreleased (stage_of chair s) s.tasks.items = λ chair there. phased_count w.index (left_before c) w.home.closing w.root w.names.unreleased w'.names.unreleased (stage_of chair s) s.tasks.items (sound.phased chair there) in
       grind arith
 
@@ -238,4 +240,8 @@ module _ {B L : Type 0} (left : B → L) (spot : L → Option Said → Spot) whe
         unheard refl refl refl,
         record { spares = by.spares; whole = by.whole },
       ) in
-      subst (λ y. Steps left spot w s e w' y) (sym it.kept) (subst (λ y. Steps left spot w s e y s1) (sym (goes_next c v w' it.worker place)) (subst (λ y. Steps left spot w s y w1 s1) (sym event) done))
+      let s2 : Shared B = record s1 { store = s'.store } in
+      let back = it.back found.0 found.1 in
+      let room : HasRoom s'.requests.items s'.store = subst (λ xs. HasRoom xs s'.store) (sym it.requests) (room_back s.requests.items n found.0 s.store found.1 found.3.0 sound.carried.room s'.store found.3.1 back) in
+      let given : Steps left spot w s (Release n) w1 s2 = steps_given left spot w w1 s s1 (Release n) s'.store room back.files done in
+      subst (λ y. Steps left spot w s e w' y) (sym it.kept) (subst (λ y. Steps left spot w s e y s2) (sym (goes_next c v w' it.worker place)) (subst (λ y. Steps left spot w s y w1 s2) (sym event) given))

@@ -7,20 +7,25 @@
 //!
 //! A wake is paid by what its task waits for: a task waits for one thing at a time, so that is the thing that has ended.
 
+ghost use Rattle.exec_messages.specs.Rooms.{GivesBack};
+ghost use Rattle.exec_parts.specs.declared.parts.record.Record.{Record};
 ghost use Rattle.exec_invariants.specs.{Sound.SoundAt, Whole.HasWhole, Works.Steps};
 ghost use Rattle.std.specs.Prelude.{◌+◌, ◌<◌, ◌≡◌, ℕ, ◌≤◌, length, drop, slice_get, slice_index_or, Some, if◌then◌else◌};
 ghost use Rattle.std.specs.VecDeque.{deque_capacity, deque_len};
 ghost use Rattle.exec_parts.specs.{Calls.{IsUnpaid, KeepsRoom, releasing, IsTold}, MailTakes.{IsSentEnd, IsSentOutput, MaySendEnd, MaySendOutput, MayWakeNext, WakesHearer, WakesNext, WakesWaiter, after_sending_of, queued_after, thing_heard}, Serving.changed_at, Tests.{after_callbacks_of, is_anything_told, leave_of, next_callback_of}};
 
 use exec_machine::event::Event;
-use exec_machine::state::Waiting;
+use exec_machine::state::{Operation, Waiting};
 use exec_moves::handing::{AfterCallbacks, AfterLeave, AfterPush, Heard};
 use exec_moves::place::{InCallbacks, Place};
+use exec_outcomes::outcome::Kind;
 use exec_parts::parts::mail::Reply;
 use exec_parts::parts::shared::Shared;
 use exec_parts::parts::worker::Worker;
 use exec_parts::scripted::Scripted;
 use exec_parts::waking::pay;
+use exec_request::window::{Opcode, Window};
+use exec_ring::store::Store;
 use exec_task::runnable::Runnable;
 use exec_time::notes::ForwardedResult;
 use exec_waiters::deferred::Answer;
@@ -233,7 +238,7 @@ fn let_go_output(worker: &mut Worker, next: AfterCallbacks) -> Event
     Event::Turn
 }
 
-/// Lets go of what the request owned that ended first. The caller must know that something is to be released, one
+/// Lets go of what the request owned that ended first, and of the room that it has left in the store. The caller must know that something is to be released, one
 /// thing for each request that has ended, that the first of these is there, and that all of them count as unreleased.
 fn release_next<B: Drop>(worker: &mut Worker, next: AfterCallbacks, shared: &mut Shared<B>) -> Event
     requires some { 0 < length worker.old.home.deferred.resources.items }
@@ -249,15 +254,43 @@ fn release_next<B: Drop>(worker: &mut Worker, next: AfterCallbacks, shared: &mut
     ensures told { (live : ℕ) → IsTold worker.old.names.ended.items worker.old.home.deferred live → IsTold worker.new.names.ended.items worker.new.home.deferred live }
     ensures worker { worker.new ≡ record worker.old { place = worker.new.place; names = record worker.old.names { ended = worker.new.names.ended; unreleased = worker.new.names.unreleased }; home = record worker.old.home { deferred = record worker.old.home.deferred { resources = worker.new.home.deferred.resources } } } }
     ensures requests { (n : ℕ) → slice_get worker.old.names.ended.items 0 ≡ Some n → shared.new.requests.items ≡ changed_at shared.old.requests.items n releasing }
-    ensures kept { shared.new ≡ record shared.old { requests = shared.new.requests } }
+    ensures room { (n : ℕ) (r : Record) → slice_get worker.old.names.ended.items 0 ≡ Some n → slice_get shared.old.requests.items n ≡ Some r → GivesBack r.shown.operation shared.old.store shared.new.store }
+    ensures kept { shared.new ≡ record shared.old { requests = shared.new.requests; store = shared.new.store } }
 {
     worker.home.deferred.resources.pop_front();
     let Some(request) = worker.names.release() else {
         unreachable!()
     };
     shared.requests[request].release();
+    give_back(&mut shared.store, &shared.requests[request].shown.operation);
     worker.place = worker.next_callback(next);
     Event::Release { request }
+}
+
+/// Gives back the room that a request which is over has left for bytes of its socket. One that no window says is none
+/// that an admission made.
+fn give_back(store: &mut Store, operation: &Operation)
+    ensures { GivesBack operation.now store.old store.new }
+{
+    let kind = match operation.kind {
+        Kind::Send => Opcode::Send,
+        Kind::Recv | Kind::Fill => Opcode::Recv,
+        _ => return,
+    };
+    let left = operation.length.saturating_sub(operation.moved);
+    let (Ok(target), Ok(length)) = (u32::try_from(operation.target), u32::try_from(left)) else {
+        return;
+    };
+    store.release(Window {
+        kind,
+        target,
+        length,
+        offset: 0,
+        chunks: 0,
+        hint: false,
+        direct: false,
+        dsync: false,
+    });
 }
 
 /// What a task waits for that hears of this.

@@ -27,15 +27,15 @@ from_of c x = (x.start + x.passed) % c.workers
 abbrev pub past : Scan → Scan
 past x = record x { passed = x.passed + 1 }
 
-abbrev pub past_own : Configuration → ℕ → Scan → Scan
-past_own c i x = if from_of c x == i then past x else x
+abbrev pub past_own_queue : Configuration → ℕ → Scan → Scan
+past_own_queue c i x = if from_of c x == i then past x else x
 
 -- the queue that is next, or the look after the last
 abbrev pub scanning : Configuration → Scan → Place
 scanning c x = if nat_lt x.passed c.workers then at.Scan (step.LoadTheirHead x) else at.Look look.Publish
 
 abbrev pub looks_at : Configuration → ℕ → Scan → Place
-looks_at c i x = scanning c (past_own c i x)
+looks_at c i x = scanning c (past_own_queue c i x)
 
 -- so much of the own queue must be free
 abbrev pub half : ℕ

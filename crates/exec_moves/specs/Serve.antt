@@ -14,7 +14,7 @@ use Rattle.exec_moves.specs.declared.place.InService.TheVariants as step
 use Rattle.exec_moves.specs.declared.place.Reaping.TheVariants as reaping
 use Rattle.exec_moves.specs.declared.place.Place.TheVariants as at
 
--- the latch goes out of the wake word, and a sleeper's wake comes into the callbacks
+-- the latch goes out of the wake word
 abbrev pub unlatched : PureWord → PureWord
 unlatched w = record w { latch = false }
 

@@ -2,11 +2,11 @@
 //!
 //! A worker is one party of many, and between two of its steps any other may take some. So all that it knows of where
 //! it stands is its place with what that carries; all else it looks up anew. Each place is named as the function that
-//! takes its step, in the file of its group. A step names one shared thing at most, which stands in brackets below;
-//! beside it, it sees the clock, whether the task set is closed and whether the pool is stopped, and it may make
-//! things, which get the next numbers. The end that is sent into a one-shot and whether its task still holds it are
-//! read as one thing: a task that is over has let go of its side, and who sends finds so by the send itself. What a
-//! step finds it decides at once: tests, jumps and ends are no steps.
+//! takes its step, in the file of its group. A step names one shared thing at most, which stands in brackets below. Of
+//! the things that parties share beside the machine's common part it sees that one and changes no other; the common
+//! part it is lent whole, and what it makes of that its event says. The end that is sent into a one-shot and whether
+//! its task still holds it are read as one thing: a task that is over has let go of its side, and who sends finds so by
+//! the send itself. What a step finds it decides at once: tests, jumps and ends are no steps.
 //!
 //! A part that several ways go through, as the callbacks, a service or a push, carries where it leads. Parts call parts
 //! in no circle, so the types say what may come next. What hands something on has its places in `handing`, search, look

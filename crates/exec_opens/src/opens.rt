@@ -1,9 +1,10 @@
 //! The opens that the workers of an executor share: for each its record, and the gate of its durable requests.
 //!
-//! A durable request holds the gate of its open from its grant until its end is accounted for, so the next one knows
-//! of its failure. Requests of all workers stand in one line, first come, first served, each by the number of its
-//! worker and its own name there. Who is admitted has a place in the line (`reserve`) before it joins (`join`); who is
-//! over, or gave the permit up, leaves (`leave`), which names the next holder. Its worker has to be signalled.
+//! Durable requests of all workers stand in one line, first come, first served, each by the number of its worker and its
+//! own name there. The first holds the gate: from its join where nobody does, else from when the one before it leaves,
+//! and until its end is accounted for, so the next one knows of its failure. So it holds the gate also before its worker
+//! grants it the permit, and the others wait for that. Who is admitted has a place in the line (`reserve`) before it
+//! joins (`join`); a holder that is over leaves (`leave`), which names the next. Its worker has to be signalled.
 //!
 //! A caller lends the opens to each call that may need one. A number that no open has is none: its record is none, and
 //! it has no gate.
@@ -29,7 +30,7 @@ pub struct WaiterKey {
 /// One open.
 #[derive(Drop)]
 struct Open {
-    /// Which durable request has the permit, and which wait for it.
+    /// Which durable request holds it, and which wait.
     gate: Gate<WaiterKey>,
     /// How many have a place in the line that haven't joined it.
     coming: usize,
@@ -231,8 +232,9 @@ impl Opens {
         }
     }
 
-    /// A durable request joins the line of its open. It holds the gate at once where nobody does. The caller must have
-    /// made a place for it (`has_place`).
+    /// A durable request joins the line of its open. It holds the gate at once where nobody does. Nothing changes where
+    /// there is no such open. The caller must have made a place for it (`has_place`), and know that it stands nowhere in
+    /// the line: one that stands there twice comes to hold the gate after its end, and holds it for good.
     pub fn join(&mut self, file: u32, key: WaiterKey)
         requires made { IfSome (open_at self.old file) (λ o. 0 < o.coming) }
         ensures { self.new ≡ with_open self.old file (joined key) }
@@ -242,8 +244,9 @@ impl Opens {
         }
     }
 
-    /// The holder gives the permit up. Answers the next one, whose worker has to be signalled. Nothing changes where
-    /// there is no such open.
+    /// The holder leaves the gate, and gives the permit up. Answers the next holder, whose worker has to be signalled.
+    /// Nothing changes where there is no such open. The caller must be who holds the permit, and have ended the request
+    /// that it was for: the permit of any other holder would be given up as well.
     pub fn leave(&mut self, file: u32) -> Option<WaiterKey>
         ensures next { result ≡ next_at self.old file }
         ensures left { self.new ≡ with_open self.old file passed }
@@ -254,7 +257,8 @@ impl Opens {
         }
     }
 
-    /// Who has the permit of an open. None where nobody has, or there is no such open.
+    /// Who holds the gate of an open, whether its worker granted it the permit or has yet to. None where nobody does, or
+    /// there is no such open.
     pub fn holder(&self, file: u32) -> Option<WaiterKey>
         ensures { result ≡ holder_at self.now file }
     {

@@ -16,7 +16,7 @@ moves_most : (out : Bool) (socket : ℕ) (r : Record) → may_move out socket r 
 moves_most = grind arith
 
 moves_none : (out : Bool) (socket : ℕ) (r : Record) → moves_by out socket r.shown.operation ≡ false → may_move out socket r ≡ 0
-moves_none out socket r is = ap (λ b. if b then unlanded r.shown.phase r.shown.operation else 0) is
+moves_none out socket r is = ap (λ b. if b then unlanded r.shown.phase r.shown.released r.shown.operation else 0) is
 
 either : {A : Type 0} (b : Bool) (x : A) → (if b then x else x) ≡ x
 either true x = refl

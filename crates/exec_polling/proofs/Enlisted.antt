@@ -8,12 +8,12 @@ use Rattle.exec_waiters.specs.{Events.{finished, told_by_finish}, States.{counts
 use Rattle.exec_driver.specs.{Admission.with_rooms, Driving.{Driving, seen}, Placed.ListsRequests, Punctual.IsPunctual, Footprints.footprint_of, Steps.{is_late, newcomer, placed_at, plainly_written, taken_in, timed_out, told_at_admission}}
 use Rattle.exec_lists.specs.Lists.{withdrawn, without}
 use Rattle.exec_opens.specs.Opens.{OpenState, placed, with_named, writing}
-use Rattle.exec_machine.specs.{declared.{event.Event.Event, state.{Operation.Operation}}, Requests.{asked_of as asked_in, first_phase, new_request, outcome_if_late, resolved}, Tests.{is_gated, is_in_flight, is_resolved}}
+use Rattle.exec_machine.specs.{declared.{event.Event.Event, state.{Operation.Operation}}, Requests.{asked_of as asked_in, first_phase, new_request, outcome_if_late, resolved}, Tests.{is_gated, is_in_flight, is_landed, is_resolved}}
 use Rattle.exec_moves.specs.declared.{handing.AfterCallbacks.AfterCallbacks, place.{Place.Place, InCallbacks.InCallbacks, InPoll.InPoll}}
 use Rattle.exec_parts.specs.{declared.parts.{mail.Reply.Reply, names.Names.Names, record.Record.Record, shared.Shared.Shared, worker.Worker.Worker}, Records.{number_in, operation_in, seen_in}, Serving.{changed_at, changed_in}, Calls.IsTold, View.driver_of}
 use Rattle.exec_invariants.{specs.Admitting.{Registers, has_open, most_told, seeing}, proofs.Taken.{Takes, enrolled_if, got_new}}
 use Rattle.exec_polling.proofs.{Enlisting.{cancels_are, due_are, enrolments_are, gated_are, driver_then, placed_late, placed_queued, placing, queued_driver, taken_by}, Growing.told_same}
-use Rattle.exec_invariants.{specs.{Due.{IsWheelAt, wheel_moment}, Gates.{may_ask_hint}, Ordered.went_round, Sound.{SoundAt, AreOver}, Names.{HasWidth, tellers}}, proofs.{Late.tells_error, Orders.{TurnsAlike, alike_self}, Ousting.keeps_ended, Over.OneEnds, Resolving.{SlabAfter, places_fewer, slab_after}, ServedEnds.ends_told, ServingHolds.KeepsBy, Untold.{keeps_untold, rooted_told}}}
+use Rattle.exec_invariants.{specs.{Due.{IsWheelAt, wheel_moment}, Gates.{may_ask_hint}, Ordered.went_round, Sound.{SoundAt, AreOver}, Names.{HasWidth, tellers}}, proofs.{Late.tells_error, Orders.{TurnsAlike, alike_self}, Ousting.keeps_ended, Over.{OneEnds, leaves_all}, Resolving.{SlabAfter, places_fewer, slab_after}, ServedEnds.ends_told, ServingHolds.KeepsBy, Untold.{keeps_untold, rooted_told}}}
 use Rattle.exec_polling.proofs.{Rooms.few_tellers, Coming.OneComes, Newcomer.{carried_next, flown_next, is_here, known_next, named_next, order_next, over_next, punctual_next, rooted_next, timed_next}, RegisterOpens.{IsRegistered, Opened, hints_then, opened_so}, Unbegun.{late_is, none_come}, IsComing.IsComing}
 
 set_last : {A : Type 0} (xs : List A) (x y : A) → slice_set (xs ++ x ∷ []) (length xs) y ≡ xs ++ y ∷ []
@@ -30,6 +30,9 @@ wide_places = grind arith
 -- the changes that its open has are told in one field
 seeing_is : (opens : List OpenState) (o : Operation) → seeing opens o ≡ record o { seen = (seeing opens o).seen }
 seeing_is = grind arith
+
+first_waits : (k : Kind) → (is_landed (first_phase k) ≡ false) × (is_resolved (first_phase k) ≡ false)
+first_waits = grind arith
 
 first_gated : (k : Kind) → is_gated (first_phase k) ≡ is_durable k
 first_gated = grind arith
@@ -314,6 +317,7 @@ module _ {B : Type 0} (t : ℕ) (w w' : Worker) (s0 sx s' : Shared B) (q : Askin
         there = ap (slice_get (rs ++ record_made ∷ [])) number_made ∙ got_new rs record_made;
         slab = subst (λ x. SlabAfter driver_made.requests x reg.id.0 waiter_made told) (sym (ap (λ x. x.requests) driver)) (slab_after driver_made.requests reg.id.0 waiter_made timed_out None small at_id);
         ends = record { same = refl };
+        less = leaves_all record_made outcome (first_waits operation.kind).0 (first_waits operation.kind).1;
       } in
       let ended : w'.names.ended.items ≡ reg.mid.names.ended.items ++ number_in w'.names.requests.items reg.id.0 ∷ [] =
       reg.names.ended ∙ ap (λ b. if b then reg.mid.names.ended.items ++ length rs ∷ [] else reg.mid.names.ended.items) (ap is_some some) ∙ ap (λ n. reg.mid.names.ended.items ++ n ∷ []) (sym number_made) in

@@ -1,5 +1,5 @@
 -- The act by which a task wakes the root of another worker: that worker is sent a message.
-use Rattle.std.proofs.{Common.{MatchBool, ◌≡◌, ◌≢◌, ℕ, ◌<◌, ◌≤◌, ◌==◌, arith, Bool, true, false, not, List, [], length, map, Option, Some, None, get_or, refl, sym, ap, subst, ◌∙◌, slice_get, slice_set, if◌then◌else◌}, lemmas.{Bool.{eq-eqb}, List.{length-set, map-set}, Option.{get_or_from_slice_get, slice_get-get_or, slice_get_within}}}
+use Rattle.std.proofs.{Common.{MatchBool, ◌≡◌, ◌≢◌, ℕ, ◌<◌, ◌≤◌, ◌==◌, arith, Bool, true, false, not, List, [], length, map, Option, Some, None, get_or, refl, sym, ap, subst, ◌∙◌, slice_get, slice_set}, lemmas.{Bool.{eq-eqb}, List.{length-set, map-set}, Option.{get_or_from_slice_get, slice_get-get_or, slice_get_within}}}
 use Rattle.exec_base.specs.declared.task_no.TaskNo.{TaskNo}
 use Rattle.exec_words.specs.Queue.{tail_of}
 use Rattle.exec_task.specs.{Sight.Sight, declared.body.{Act.Act, Said.Said}}

@@ -150,8 +150,8 @@ fn make_room<B: Drop>(
         return Err(AllocError);
     }
     shared.requests.reserve(1)?;
-    shared.tasks[task].reserve()?;
-    worker.names.reserve_request()?;
+    shared.tasks[task].reserve(alloc)?;
+    worker.names.reserve_request(alloc)?;
     shared.seats[worker.index].reserve_mail(alloc, &mut worker.batch)?;
     reserve_told(worker, alloc)
 }
@@ -277,7 +277,7 @@ fn make_room_for_sleep<B: Drop>(
     ensures room { OnOk result (HasRoomForSleep worker.new shared.new) }
 {
     shared.sleepers.reserve(1)?;
-    worker.names.reserve_timer()?;
+    worker.names.reserve_timer(alloc)?;
     shared.seats[worker.index].reserve_mail(alloc, &mut worker.batch)?;
     reserve_told(worker, alloc)
 }

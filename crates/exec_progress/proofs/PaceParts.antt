@@ -7,7 +7,7 @@ use Rattle.exec_machine.specs.declared.state.Waiting.TheVariants as waiting
 use Rattle.exec_moves.specs.declared.handing.{AfterCallbacks.AfterCallbacks, AfterClaim.AfterClaim, AfterKick.AfterKick, AfterLeave.AfterLeave, AfterPush.AfterPush, AfterSignal.AfterSignal}
 use Rattle.exec_moves.specs.declared.idling.{AfterWait.AfterWait, Scan.Scan, Stay.Stay}
 use Rattle.exec_moves.specs.declared.place.{AfterService.AfterService, Place.Place}
-use Rattle.exec_moves.specs.{Callback.{has_callbacks, is_of_pool, next_callback, to_queue}, Claim.{Claimed, after_claim}, Look.{after_withdrawal, looks_from, past_own}, Parts.{after_kick, after_leave, after_push, after_return, after_signal, has_others}, Poll.{after_begin}, Push.after_fit, Search.{judge_head, judge_tail, looks_at, past, past_own as past_mine}, Send.{after_spawn}, Serve.after_service, State.{Desk}, Wait.{after_wait, first_search, waits, withdraws}}
+use Rattle.exec_moves.specs.{Callback.{has_callbacks, is_of_pool, next_callback, to_queue}, Claim.{Claimed, after_claim}, Look.{after_withdrawal, looks_from, past_own}, Parts.{after_kick, after_leave, after_push, after_return, after_signal, has_others}, Poll.{after_begin}, Push.after_fit, Search.{judge_head, judge_tail, looks_at, past, past_own_queue}, Send.{after_spawn}, Serve.after_service, State.{Desk}, Wait.{after_wait, first_search, waits, withdraws}}
 use Rattle.exec_moves.specs.declared.handing.AfterClaim.TheVariants as claim
 use Rattle.exec_moves.specs.declared.handing.AfterKick.TheVariants as kick
 use Rattle.exec_moves.specs.declared.handing.AfterPush.TheVariants as push
@@ -159,7 +159,7 @@ module _ (c : Configuration) (i : ℕ) (me : Books) (s : Common) (budget : ℕ) 
   withdrawn = grind arith
 
   pub scanned : (y : Scan) → Fair (looks_at c i y)
-  scanned y = fair_if (nat_lt (past_mine c i y).passed c.workers) _ _ tt tt
+  scanned y = fair_if (nat_lt (past_own_queue c i y).passed c.workers) _ _ tt tt
 
   pub headed : (y : Scan) (h : Head) → Fair (judge_head c i y h)
   headed y h = fair_if (h.gap == 0) _ _ tt (scanned (past y))

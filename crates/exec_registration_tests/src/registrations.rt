@@ -125,6 +125,23 @@ fn a_closing_worker_takes_nothing(rt: HostRuntime) {
     play(&rt, rt.alloc(), CLOSING);
 }
 
+/// One that was refused, which its first poll tells.
+const REFUSED: &[Round] = &[Round {
+    made: Made::Refuse,
+    steps: &[
+        Visit::Pending(false),
+        Visit::Poll(7, Heard::Closed),
+        Visit::Over,
+    ],
+    let_go: LetGo::Here,
+    after: &[Visit::Unasked],
+}];
+
+#[test]
+fn a_refused_registration_says_so_once(rt: HostRuntime) {
+    play(&rt, rt.alloc(), REFUSED);
+}
+
 /// One that is polled and let go where the mail is closed.
 const CLOSED_MAIL: &[Round] = &[Round {
     made: Made::Invent,

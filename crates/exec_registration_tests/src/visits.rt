@@ -35,6 +35,8 @@ pub enum Made {
     Listen,
     /// It is of the first request that its worker ever named, which nobody asked for.
     Invent,
+    /// A closing worker refused it.
+    Refuse,
 }
 
 /// Who lets a registration go.
@@ -148,6 +150,7 @@ impl Desks {
                 op.expect(rt, "not registered")
             }
             Made::Invent => Registration::new(0, name(0, 0)),
+            Made::Refuse => Registration::closed(),
         }
     }
 

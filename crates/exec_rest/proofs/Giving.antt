@@ -8,7 +8,7 @@ use Rattle.exec_machine.specs.{declared.{config.Configuration.Configuration, sta
 use Rattle.exec_moves.specs.declared.handing.{AfterCallbacks.AfterCallbacks, AfterClaim.AfterClaim, AfterKick.AfterKick, AfterLeave.AfterLeave, AfterPush.AfterPush, AfterSignal.AfterSignal}
 use Rattle.exec_moves.specs.declared.idling.{AfterWait.AfterWait, Scan.Scan, Stay.Stay}
 use Rattle.exec_moves.specs.declared.place.{AfterService.AfterService, Found.Found, Place.Place, Round.Round}
-use Rattle.exec_moves.specs.{Callback.{after_callbacks, has_callbacks, is_of_pool, next_callback, to_queue}, Claim.{Claimed, after_claim}, Load.{after_loads}, Look.{after_withdrawal, looks_from, past_own}, Parts.{after_kick, after_leave, after_push, after_return, after_signal}, Poll.{after_begin}, Search.{judge_head, judge_tail, looks_at, past, past_own as past_mine}, Send.{after_spawn}, Serve.after_service, State.{Desk, Moved}, Wait.{after_wait, first_search, waits, withdraws}}
+use Rattle.exec_moves.specs.{Callback.{after_callbacks, has_callbacks, is_of_pool, next_callback, to_queue}, Claim.{Claimed, after_claim}, Load.{after_loads}, Look.{after_withdrawal, looks_from, past_own}, Parts.{after_kick, after_leave, after_push, after_return, after_signal}, Poll.{after_begin}, Search.{judge_head, judge_tail, looks_at, past, past_own_queue}, Send.{after_spawn}, Serve.after_service, State.{Desk, Moved}, Wait.{after_wait, first_search, waits, withdraws}}
 use Rattle.exec_moves.specs.declared.place.Place.TheVariants as at
 use Rattle.exec_rest.specs.AtRest.{is_given}
 use Rattle.exec_rest.proofs.Continuing.{is_light, light_next_pick, light_after_send}
@@ -96,7 +96,7 @@ module _ (c : Configuration) (i : ℕ) (me : Books) (s : Common) where
   withdrawn = grind arith
 
   pub scanned : (y : Scan) → Fair (looks_at c i y)
-  scanned y = fair_if (nat_lt (past_mine c i y).passed c.workers) _ _ none none
+  scanned y = fair_if (nat_lt (past_own_queue c i y).passed c.workers) _ _ none none
 
   pub headed : (y : Scan) (h : Head) → Fair (judge_head c i y h)
   headed y h = fair_if (h.gap == 0) _ _ none (scanned (past y))

@@ -6,7 +6,7 @@ use Rattle.exec_machine.specs.{declared.config.Configuration.Configuration, Worl
 use Rattle.exec_moves.specs.declared.idling.InLook.TheVariants as looking
 use Rattle.exec_moves.specs.declared.idling.InScan.TheVariants as scanning
 use Rattle.exec_moves.specs.declared.place.Place.TheVariants as at
-use Rattle.exec_moves.specs.{declared.{idling.{InScan.InScan, InSearch.InSearch, Scan.Scan}, place.Place.Place}, Move.{move_search, move_scan}, Pop.same_head, Search.{begun_scan, from_of, half, judge_head, judge_tail, looks_at, past, past_own}, State.{Desk, Things, queue_of, turns}, Thing.with_queue}
+use Rattle.exec_moves.specs.{declared.{idling.{InScan.InScan, InSearch.InSearch, Scan.Scan}, place.Place.Place}, Move.{move_search, move_scan}, Pop.same_head, Search.{begun_scan, from_of, half, judge_head, judge_tail, looks_at, past, past_own_queue}, State.{Desk, Things, queue_of, turns}, Thing.with_queue}
 use Rattle.exec_rest.proofs.{Asides.{own_queue, same}, Continuing.{calm_light, light_leaves_for_turn}, Heeds.Heeds, Waiting.{calms, either, goes_on, may_go, queue_put, still_empty}}
 use Rattle.exec_rest.proofs.BareMoves.{none_dropped}
 
@@ -16,7 +16,7 @@ module _ (c : Configuration) (i : ℕ) where
   scans_on q = may_go (at.Scan scanning.LoadScanHead) q
 
   on_at : (y : Scan) → scans_on (looks_at c i y) ≡ true
-  on_at y = either scans_on (nat_lt (past_own c i y).passed c.workers) (at.Scan (scanning.LoadTheirHead (past_own c i y))) (at.Look looking.Publish) refl refl
+  on_at y = either scans_on (nat_lt (past_own_queue c i y).passed c.workers) (at.Scan (scanning.LoadTheirHead (past_own_queue c i y))) (at.Look looking.Publish) refl refl
 
   on_head : (y : Scan) (h : Head) → scans_on (judge_head c i y h) ≡ true
   on_head y h = either scans_on (h.gap == 0) (at.Scan (scanning.LoadTheirTail y h)) (looks_at c i (past y)) refl (on_at (past y))

@@ -90,6 +90,6 @@ pub record IsPlaced (c : Configuration) (x : Playing) : Type 0 where
   pub mute : (i : ℕ) → is_end (place_at c x i) ≡ true → ((desk_of c x i).batch ≡ []) × (inbox_of x.things i ≡ [])
   -- a root that is to be polled or in a poll is that of a worker that has not ended, whose flag is set where it sleeps
   pub roots : (t : ℕ) (it : Task) (j : ℕ) → slice_get x.world.common.tasks t ≡ Some it → it.home ≡ Some j → is_runnable it.phase ≡ true → (j < length x.desks) × (is_end (place_at c x j) ≡ false) × (is_abed (place_at c x j) ≡ true → (desk_of c x j).root_ready ≡ true)
-  -- worker zero closes the set; once a worker of the pool has ended all ordinary tasks are over
+  -- worker zero closes the set; once a worker of the pool has ended no ordinary task is to be polled or in a poll
   pub zero : is_open (seat_of x.world.common 0).phase ≡ true → x.world.common.set_closed ≡ false
   pub done : (i : ℕ) → is_in_pool c x i ≡ true → has_ended (seat_of x.world.common i).phase ≡ true → (t : ℕ) (it : Task) → slice_get x.world.common.tasks t ≡ Some it → it.home ≡ None → is_runnable it.phase ≡ false

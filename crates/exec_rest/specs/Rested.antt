@@ -89,7 +89,8 @@ module _ (c : Configuration) (x : Playing) where
     pub bits : (i : ℕ) → has_bit i ≡ true → (is_published (place_at i) ≡ true) × (is_in_pool i ≡ true)
     -- a worker that was claimed takes its bit out next, or was signalled, or is signalled by somebody next
     pub answered : (i : ℕ) → is_in_pool i ≡ true → is_published (place_at i) ≡ true → has_bit i ≡ false → (is_withdrawing (place_at i) || is_latched i) ≡ true ⊎ IsSignalled i
-    -- Where something is in the global queue somebody still looks for a worker, or some worker of the pool will look at it.
+    -- Where something is in the global queue somebody still looks for a worker, or some worker of the pool has yet to look at it or
+    -- has lost its bit, or is closing or has ended.
     pub covered : (x.things.global ≡ [] → ⊥) → IsOwed ⊎ ((i : ℕ) × (is_in_pool i ≡ true) × (has_looked (place_at i) ≡ true → has_bit i ≡ false))
     -- who found its run queue empty has it empty
     pub dried : (i : ℕ) → is_in_pool i ≡ true → is_dry (place_at i) ≡ true → (queue_of x.things i).values ≡ []

@@ -55,7 +55,7 @@ pub struct Posted {
 }
 
 impl Completion {
-    /// The completion of an operation. The result must be one that a kernel may give.
+    /// The completion of an operation. The caller must have a result that a kernel may give.
     pub fn new(user_data: UserData, given: OpResult) -> Completion
         requires { IsTrue (is_lawful 2147483647 given) }
         ensures { result ≡ record { user_data = user_data; result = number_of given; more = true } }

@@ -8,8 +8,9 @@
 //!
 //! The submission queue never holds more than its size: the caller looks at `room` first, and enters a full queue
 //! before it stages more. The caller must have made room, by `reserve`, for each entry that is staged and not yet
-//! reaped, so no other call takes memory. A request keeps what it reserved from one operation to the next, and gives
-//! it up with `release` when it is over.
+//! reaped, so no other call takes memory. A request keeps what was reserved for it from one operation to the next. With
+//! `release` the place of an entry is given up once no request needs it, and the room for bytes where a request is
+//! refused its admission; what a request leaves of that when it is over is its owner's to give back (`Store::release`).
 //!
 //! A clause sees a ring by its `state`. What lands within an enter is `landings`: nothing in a ring whose kernel is
 //! told what to do, and some operations in one that ends them by itself, each with a result that its window allows.

@@ -2,8 +2,9 @@
 //!
 //! A socket or a file that was never named has no bytes. A landing moves bytes within room that was made before, by
 //! `reserve`, for the window that it ends. Room for the bytes of a send or a receive is a number for each socket: a
-//! landing uses it up, and `release` gives up what a request leaves. Room for those of a write is a stretch of its
-//! file, which stays.
+//! landing uses it up, and `release` gives it up: that of a request which is refused its admission, and what one leaves
+//! that is over. Else it stays its socket's, and is used by nothing but later landings there. Room for the bytes of a
+//! write is a stretch of its file, which stays.
 
 ghost use Rattle.std.specs.Prelude.{◌≡◌, ◌+◌, ◌-◌, ◌^◌, ◌<◌, ◌≤◌, ◌++◌, ◌↔◌, ℕ, take, true, IsTrue, OnOk, OnErr, IfSome, IfNone};
 ghost use Rattle.exec_bufs.specs.Buffers.{resized};

@@ -4,9 +4,11 @@ ghost use Rattle.std.specs.Prelude.{◌≡◌, ◌≢◌, true, false, [], ◌�
 ghost use Rattle.std.specs.Fmt.{decimal};
 ghost use Rattle.exec_outcomes.specs.declared.outcome.Outcome.TheVariants.{Success};
 ghost use Rattle.exec_machine.specs.declared.state.{RequestPhase.TheVariants.{Resolved, Staged}, Rest.TheVariants.Forever};
-ghost use Rattle.exec_books.specs.Examples.{its_own, its_request, its_seat, sending, with_own, with_seat};
-ghost use Rattle.exec_run.specs.{Log.{KeepOwned, NoneOversleeps}, Examples.at_first, declared.{field.Field.TheVariants.{Workers, Layout}, complaint.Complaint.TheVariants.{Usage, Syntax, Config, TooLong}}, Explains.complaint_line, Refusal.{TakesWithin, status_of, text_of_complaint, words_of_trace}};
-ghost use Rattle.exec_machine.specs.{declared.{event.{Event.TheVariants.{Enter, Rouse, Stage, Turn}, StepResult.TheVariants.{Refused, Did}}, step.Action.TheVariants.{GoOn, Work}}, Choice.Choice.Plain, Examples.usual, Progress.{Party.{Caller, Worker}, is_solo, longer, no_stretch}, Text.told_lines};
+ghost use Rattle.exec_machine.specs.declared.step.Step.TheVariants as step;
+ghost use Rattle.exec_moves.specs.Plays.{first_playing};
+ghost use Rattle.exec_books.specs.Examples.{its_own, its_request, its_seat, one_asleep, one_send, sending, with_own, with_seat};
+ghost use Rattle.exec_run.specs.{Log.{InEach, IsTheLogOf, KeepOwned, NoneOversleeps}, Examples.at_first, declared.{field.Field.TheVariants.{Workers, Layout}, complaint.Complaint.TheVariants.{Usage, Syntax, Config, TooLong}}, Explains.complaint_line, Refusal.{TakesWithin, status_of, text_of_complaint, words_of_trace}};
+ghost use Rattle.exec_machine.specs.{declared.{event.{Event.TheVariants.{Enter, Rouse, Stage, Turn}, StepResult.{StepResult, TheVariants.{Refused, Did}}}, step.Action.TheVariants.{Clock, GoOn, Work}}, Choice.{Choice, Choice.Plain}, Examples.{Told, usual}, Progress.{Party.{Caller, Worker}, is_solo, longer, no_stretch}, Text.told_lines};
 
 /// Complaints, and the status that each ends with.
 pub fn complaints()
@@ -73,4 +75,19 @@ pub fn who_sleeps()
     ensures until { NoneOversleeps sending }
     ensures for_ever { NoneOversleeps (with_seat (record its_seat { rest = Forever })) → ⊥ }
     ensures on { NoneOversleeps (record sending { common = record sending.common { clock = 10000000 } }) → ⊥ }
+{}
+
+/// What is said of each state of a log is said of the last one, and of the one before each line. Refused is a state with a
+/// request in flight of which something was let go, whether or not a line comes after it; one to which a line leads, if the clock is
+/// to stand still; and a log with a line for no step, or with no line for one.
+pub fn each_state()
+    ensures kept { InEach (λ x. KeepOwned x.world) one_send.config one_asleep [] }
+    ensures last { InEach (λ x. KeepOwned x.world) one_send.config
+        (record one_asleep { world = with_own its_own (record its_request { released = true }) }) [] → ⊥ }
+    ensures before { (it : Told) → InEach (λ x. KeepOwned x.world) one_send.config
+        (record one_asleep { world = with_own its_own (record its_request { released = true }) }) (it ∷ []) → ⊥ }
+    ensures after { (said : StepResult) (choice : Choice) → InEach (λ x. x.world.common.clock ≡ 0) one_send.config (first_playing one_send)
+        ((record { action = Clock 5; said = said }, choice) ∷ []) → ⊥ }
+    ensures of_no_step { (it : Told) → IsTheLogOf one_send [] (it ∷ []) → ⊥ }
+    ensures no_line { IsTheLogOf one_send (step.Work 0 1 ∷ []) [] → ⊥ }
 {}

@@ -4,6 +4,7 @@ ghost use Rattle.std.specs.Prelude.{◌≡◌, ◌≤◌, length};
 ghost use Rattle.exec_run.specs.Ranges.{text_of_field};
 
 use std::fmt;
+use thiserror::Error;
 
 /// A part of a configuration that has a range.
 #[derive(Clone, Copy, Debug, PartialEq, Eq)]
@@ -31,7 +32,8 @@ pub enum Field {
 }
 
 /// A part of a configuration that is out of its range.
-#[derive(Clone, Copy, Debug, PartialEq, Eq)]
+#[derive(Clone, Copy, Debug, PartialEq, Eq, Error)]
+#[error("{field} {value}")]
 pub struct OutOfRange {
     /// Which part it is.
     pub field: Field,

@@ -5,11 +5,9 @@ ghost use Rattle.exec_machine.specs.Ranges.{ticks_needed};
 ghost use Rattle.exec_run.specs.Ranges.{first_out_of_range, tested_parts, is_within, is_spin};
 
 use crate::field::{Field, OutOfRange};
-use exec_base::limits::LONGEST_TIMEOUT;
+use exec_base::limits::{LONGEST_TIMEOUT, MOST_SLOTS, MOST_WORKERS};
 use exec_machine::config::{Configuration, Spin};
 
-/// The most workers.
-const MOST_WORKERS: u64 = 64;
 /// The most that a count of 32 bits can be.
 const MOST_COUNT: u64 = 4_294_967_295;
 /// The most operations that a ring can hold.
@@ -18,8 +16,6 @@ const MOST_OPERATIONS: u64 = 32_768;
 const MOST_FILES: u64 = 64;
 /// The most sockets.
 const MOST_SOCKETS: u64 = 1024;
-/// The most slots of the timeout wheel.
-const MOST_SLOTS: u128 = 1_048_576;
 
 /// The first part of the configuration that is out of its range, in the order of the header, with what it
 /// says. The slots of the timeout wheel come last.
@@ -54,7 +50,7 @@ fn tested_parts(config: Configuration) -> [(Field, u64, bool); 10]
         (
             Field::Workers,
             workers as u64,
-            is_within(1, MOST_WORKERS, workers as u64),
+            is_within(1, MOST_WORKERS as u64, workers as u64),
         ),
         (
             Field::Interval,
@@ -72,7 +68,11 @@ fn tested_parts(config: Configuration) -> [(Field, u64, bool); 10]
         (Field::Spin, spin.budget, is_spin(spin)),
         (Field::Files, files, files <= MOST_FILES),
         (Field::Sockets, sockets, sockets <= MOST_SOCKETS),
-        (Field::Layout, tick, ticks_needed(config) <= MOST_SLOTS),
+        (
+            Field::Layout,
+            tick,
+            ticks_needed(config) <= u128::from(MOST_SLOTS),
+        ),
     ]
 }
 

@@ -186,7 +186,10 @@ fn roots_of<'a>(
     Ok(roots)
 }
 
-/// Runs the trace, gives its log, or its quiet log, and passes that on.
+/// Runs the trace, gives its log, or its quiet log, and passes that on. The errors are `WriteFault` where the sink fails, and
+/// `NoMemory` where the executor or a line finds no memory; what was given by then is a front of the log. The caller must
+/// have a trace as the reader answers it, which names only scripts that it has, 2^32 at most, whose configuration has each
+/// part in its range, and which asks for `MOST_STEPS` steps at most.
 pub fn log_trace<O: Output>(
     alloc: Global,
     sink: &mut O,

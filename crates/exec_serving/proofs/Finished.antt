@@ -1,5 +1,5 @@
 -- What holds again once an operation has landed whose request is over.
-use Rattle.std.{proofs.{Common.{◌≡◌, ◌≢◌, ℕ, ◌^◌, ◌<◌, true, false, List, [], ◌∷◌, ◌++◌, map, Option, Some, IsSome, refl, sym, ap, subst, ◌∙◌, arith, if◌then◌else◌}, lemmas.List.length-set}, specs.VecDeque.deque_capacity}
+use Rattle.std.{proofs.{Common.{◌≡◌, ◌≢◌, ℕ, ◌^◌, ◌<◌, ◌≤◌, Bool, true, false, List, [], ◌∷◌, ◌++◌, map, Option, Some, IsSome, refl, sym, ap, subst, ◌∙◌, arith, if◌then◌else◌}, lemmas.List.length-set}, specs.VecDeque.deque_capacity}
 use Rattle.exec_base.{specs.Slab.{value_at, written}, proofs.Slots.{Updates-write, past-write}}
 use Rattle.exec_outcomes.specs.{Accounts.{Account, is_durable}, declared.outcome.{Kind.Kind, OpResult.OpResult, Outcome.Outcome}}
 use Rattle.exec_request.specs.{Judging.{Judges, judged_as}, Kept.kept_of, Requests.{asked_of, cursor_of, hinted_of, output_of}, declared.{request.Request.Request as Asking, output.RequestOutput.RequestOutput}, States.{Ended, as_outcome, told_by}}
@@ -7,10 +7,10 @@ use Rattle.exec_ring.specs.{Completions.result_in, declared.completion.Completio
 use Rattle.exec_waiters.{specs.{Ids.user_data_of, States.{waiter_at, tick_in, waiter_of}, declared.{waiter.{Entry.TheVariants.Pending, Waiter.Waiter}, deferred.Deferred.Deferred}, Told.{Tells, Told}, Events.{finished, told_by_finish}}, proofs.Changes.entry_of}
 use Rattle.exec_driver.specs.{Driving.Driving, Punctual.IsPunctual, Steps.unscheduled}
 use Rattle.exec_lists.specs.Lists.{without, withdrawn}
-use Rattle.exec_machine.specs.{declared.{state.Request.Request}, Requests.reaped}
+use Rattle.exec_machine.specs.{declared.{state.{Request.Request, RequestPhase.RequestPhase}}, Requests.reaped}
 use Rattle.exec_moves.specs.{declared.place.{AfterPermit.AfterPermit, Place.Place, Reaping.Reaping, Service.Service, InService.InService}, Seen.serves_at, Serve.{after_permit, back_from_reap}}
 use Rattle.exec_parts.{specs.{declared.parts.{mail.Reply.Reply, names.Names.Names, record.Record.Record, shared.Shared.Shared, worker.Worker.Worker}, Records.number_in, Serving.{changed_at, is_one_of}, View.{driver_of, number_told}}, proofs.Facts.not_same}
-use Rattle.exec_invariants.{specs.{Carried.IsUnderWay, Due.{IsWheelAt, wheel_moment}, Flown.{AreLanded, HasLanded, IsPlain, operations}, HoldPlaces.is_bare_at, Sound.{SoundAt, served_in}, Names.IsAlike, Rooted.outcome_told}, proofs.{Changing.{changes_one, pending_still}, HeldCounts.held_written, Flown.landed_on, Marking.{mark_if, marked}, ServingHolds.{Follows, KeepsBy}, Serving.kept, ServingPlaces.calm, Swept.RingAfter, Mine.live_mine, ServedEnds.ends_told, Orders.{TurnsAlike, alike_unticked, past_written}, Ousting.keeps_over, Over.OneEnds, Resolving.{SlabAfter, slab_after, unticked_at}}}
+use Rattle.exec_invariants.{specs.{Carried.{IsUnderWay, may_move}, Due.{IsWheelAt, wheel_moment}, Flown.{AreLanded, HasLanded, IsPlain, operations}, HoldPlaces.is_bare_at, Sound.{SoundAt, served_in}, Names.IsAlike, Rooted.outcome_told}, proofs.{Changing.{changes_one, pending_still}, HeldCounts.held_written, Flown.landed_on, Judging.moved_bytes, Marking.{mark_if, marked}, ServingHolds.{Follows, KeepsBy}, Serving.kept, ServingPlaces.calm, Swept.RingAfter, Mine.live_mine, ServedEnds.ends_told, Orders.{TurnsAlike, alike_unticked, past_written}, Ousting.keeps_over, Over.OneEnds, Resolving.{SlabAfter, slab_after, unticked_at}}}
 use Rattle.exec_serving.proofs.{Requeued.{fits_shown, landed_rest, lawful_shown, number_landed}, Returned.{not_due}}
 
 -- WHAT THE DRIVER DID
@@ -46,6 +46,10 @@ served_over = grind arith
 
 abbrev pub goes_over : OpResult → Outcome → Record → Record
 goes_over given outcome r = record r { shown = reaped given (Some outcome) r.shown }
+
+-- it has no more room than it had
+over_less : (given : OpResult) (outcome : Outcome) (r : Record) → r.shown.phase ≡ RequestPhase.Landed given → (out : Bool) (socket : ℕ) → may_move out socket (goes_over given outcome r) ≤ may_move out socket r
+over_less = grind (arith, moved_bytes)
 
 renamed : (n n' : Names) (d : Driving Reply Reply) (rs : List Record) (cs : List Completion) → n'.requests ≡ n.requests → AreLanded n d rs cs → AreLanded n' d rs cs
 renamed = grind (arith, landed_on)
@@ -97,7 +101,7 @@ module _ {B : Type 0} (rp : Reaping) (v : Service) (w : Worker) (s : Shared B) (
       })
 
   one_over : OneEnds w.names (driver_of w) d'.requests s.requests.items over.h.id over.h.it over.h.r (goes_over (result_in c.result) over_outcome) over_outcome over_told
-  one_over = record { at = over.h.live; there = over.h.there; slab = slab_then; ends = record { same = refl } }
+  one_over = record { at = over.h.live; there = over.h.there; slab = slab_then; ends = record { same = refl }; less = over_less (result_in c.result) over_outcome over.h.r over.h.landed }
 
   plain_over : IsPlain (goes_over (result_in c.result) over_outcome over.h.r).shown
   plain_over = grind (arith, over_plain, fits_shown, lawful_shown, over_alike)

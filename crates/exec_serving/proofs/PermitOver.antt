@@ -11,7 +11,7 @@ use Rattle.exec_task.specs.declared.body.Said.{Said}
 use Rattle.exec_machine.specs.{declared.event.Event.{Event, TheVariants.Grant}, Requests.{account_of_open, granted, joined_if}, Same.{is_number, same_end}, Tests.{is_gated, is_of_file, is_resolved}, World.{open_of, request_of}}
 use Rattle.exec_moves.specs.{declared.place.{AfterPermit.AfterPermit, InService.InService, Place.Place, Service.Service}, State.Desk, Submit.after_grant, Told.told_of_end}
 use Rattle.exec_parts.{specs.{declared.parts.{mail.Reply.Reply, record.Record.Record, shared.Shared.Shared, worker.Worker.Worker}, Records.number_in, Serving.{changed_at, changed_in}, Spots.Spot, View.{common_of, desk_of, driver_of, gate_seen, visible, with_view}}, proofs.Facts.{by_name, same_Some}}
-use Rattle.exec_invariants.{specs.{Due.IsWheelAt, Gates.{AreLinedUp, HaveGates, IsKnown, PassesPermit, key_for}, Holding.nap_of, Places.{Drops, drops_at, passes_at}, Rooted.outcome_told, Submits.IsGatedIn, Whole.{IsWhole, Profile, with_worker}, Works.Steps}, proofs.{Accounted.open_of_file, Expiring.{unticked_start, unticked_tick}, Changing.{changes_one, flying_after}, DeskEnds.desk_ended, Ends.{flying_ended, numbers_without}, EndsServed.{ends_thing, one_slot}, Gated.durable_of_file, Late.ends_as, Lined.{SameLines, gates_opens, gates_seen_same, lined_opens, lines_same, map_changed, was_sent}, Marking.{mark_if, marked}, Mine.stands, Orders.alike_unticked, Ousting.keeps_ended, Over.OneEnds, Recorded.shown_changed, Resolving.{slab_after, unticked_at}, Seeing.{own_with, served_by, shows}, ServedEnds.ends_told, ServedWakes.holding_over, Serving.{Balances, SparesGates, at_large}, ServingHolds.{Follows, IsServed, KeepsBy, OthersKept, Serves, keeps_home, serves_to}, Slotted.{awaited_written, slots_written}, Staging.stages_again, SparedRecord.there_within, Turning.view_found}}
+use Rattle.exec_invariants.{specs.{Due.IsWheelAt, Gates.{AreLinedUp, HaveGates, IsKnown, PassesPermit, key_for}, Holding.nap_of, Places.{Drops, drops_at, passes_at}, Rooted.outcome_told, Submits.IsGatedIn, Whole.{IsWhole, Profile, with_worker}, Works.Steps}, proofs.{Accounted.open_of_file, Expiring.{unticked_start, unticked_tick}, Changing.{changes_one, flying_after}, DeskEnds.desk_ended, Ends.{flying_ended, numbers_without}, EndsServed.{ends_thing, one_slot}, Gated.durable_of_file, Late.ends_as, Lined.{SameLines, gates_opens, gates_seen_same, lined_opens, lines_same, map_changed, was_sent}, Marking.{mark_if, marked}, Mine.stands, Orders.alike_unticked, Ousting.keeps_ended, Over.{OneEnds, leaves_all}, Recorded.shown_changed, Resolving.{slab_after, unticked_at}, Seeing.{own_with, served_by, shows}, ServedEnds.ends_told, ServedWakes.holding_over, Serving.{Balances, SparesGates, at_large}, ServingHolds.{Follows, IsServed, KeepsBy, OthersKept, Serves, keeps_home, serves_to}, Slotted.{awaited_written, slots_written}, Staging.stages_again, SparedRecord.there_within, Turning.view_found}}
 use Rattle.exec_serving.proofs.{Finished.tells_ending, Gone.{apart_by, as_told, known_opens, one_written, one_written_is}, PermitGates.{drops_others, drops_own, gates_passing}, PermitGrants.{Granted, gates_granted, keys_granted, lined_granted}, PermitQueued.{GrantAt, granted_at as at_grant, granted_of, keeps_queued, queues}, PermitSeen.{keys_gates, opens_ended}, PermitSteps.{HasGranted, answer_is, holder_is, moves_grant, request_is, spares_marked, things_granted}, ReapAccounts.{IsOperation, file_there, lines_counted, opens_counted, opens_uncounted}, ReapViewed.{same_outcome_self, told_place}}
 use Rattle.exec_invariants.proofs.Raising.{set_twice}
 
@@ -145,7 +145,7 @@ module _ {B L : Type 0} (left : B → L) (spot : L → Option Said → Spot) (v 
       let start = w.moments.start in
       let now = w.moments.sampled in
       let there1 : slice_get rs1 k ≡ Some (queues who.r) = marked queues rs k k who.r who.there ∙ ap (λ b. Some (mark_if queues b who.r)) (eq-eqb k k refl) in
-      let one : OneEnds w.names d1 d2.requests rs1 g.id.0 permitted (queues who.r) over outcome told = search (live1, there1, slab_after d1.requests g.id.0 permitted how account who.small live1) in
+      let one : OneEnds w.names d1 d2.requests rs1 g.id.0 permitted (queues who.r) over outcome told = search (live1, there1, slab_after d1.requests g.id.0 permitted how account who.small live1, leaves_all (queues who.r) outcome refl refl) in
       let plain = new.sound.flown.plain k who.r who.there who.worker in
       let wheel : IsWheelAt s.config start now (driver_of w).wheel = new.sound.due.wheel in
       let punctual : IsPunctual d2 = subst IsPunctual driver by.punctual in

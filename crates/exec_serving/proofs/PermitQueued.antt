@@ -186,7 +186,7 @@ module _ {B : Type 0} (q q' : Place) (w : Worker) (s : Shared B) (sound : SoundA
       subst (λ x. IsCarried n x d'.ring queued_records s.store) (sym slab)
       (subst (λ x. IsCarried n (written d.requests id.0 (Pending it')) x queued_records s.store) (sym ring)
       (carried_one n d.requests d.ring rs s.store sound.carried id.0 who.it it' who.r queues d.ring who.live who.there (λ v differs. refl) (λ v differs. refl) none (sound.carried.whole id.0 who.it who.live) (sound.carried.target id.0 who.it who.r who.live who.there)
-      (λ out socket. let same : may_move out socket (queues who.r) ≡ may_move out socket who.r = ap (λ p. if moves_by out socket who.r.shown.operation then unlanded p who.r.shown.operation else 0) (sym who.phase) in omega (arith, same))
+      (λ out socket. let same : may_move out socket (queues who.r) ≡ may_move out socket who.r = ap (λ p. if moves_by out socket who.r.shown.operation then unlanded p who.r.shown.released who.r.shown.operation else 0) (sym who.phase) in omega (arith, same))
       (sound.carried.stretch id.0 who.it who.live)
       (λ other x live apart. apart_number w.index w.names w.names d d' w.home.timers rs s.sleepers.items id.0 who.it it' who.r queues one sound.named other (rw (entry_of (value_at d.requests other) x live) refl) apart)))
 

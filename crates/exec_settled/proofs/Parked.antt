@@ -1,10 +1,10 @@
 -- Who sleeps has nothing to do, or somebody wakes it next: by what each state has, whatever others do.
-use Rattle.std.proofs.Common.{◌≡◌, ◌≢◌, ℕ, suc, ◌==◌, ◌&&◌, ◌||◌, Bool, true, false, not, List, [], ◌∷◌, Option, Some, None, ◌∙◌, refl, sym, ap, subst, arith, inl, inr, get_or, unwrap_or, if◌then◌else◌}
-use Rattle.std.proofs.lemmas.Bool.{true≢false, false≢true, and_parts, cases_Bool, eq-eqb, eqb-true, false_from_ne_true, not-true, or_cases}
-use Rattle.std.proofs.lemmas.Option.{none-some}
+use Rattle.std.proofs.Common.{◌≡◌, ◌≢◌, ℕ, suc, ◌==◌, ◌&&◌, ◌||◌, Bool, true, false, not, List, [], ◌∷◌, Option, Some, None, ◌∙◌, refl, sym, ap, subst, arith, inl, inr, get_or, length, unwrap_or, if◌then◌else◌}
+use Rattle.std.proofs.lemmas.Bool.{true≢false, false≢true, and_parts, cases_Bool, cases_lt, eq-eqb, eqb-true, false_from_ne_true, not-true, or_cases}
+use Rattle.std.proofs.lemmas.{List.get_or_past, Option.none-some}
 use Rattle.std.specs.Prelude.{nat_lt, slice_get}
 use Rattle.std.specs.List.{list_any}
-use Rattle.exec_machine.specs.{declared.{config.Configuration.Configuration, state.{Forwarding.Forwarding, MailMessage.MailMessage, Request.Request, RequestPhase.RequestPhase, TaskPhase.TaskPhase}}, Progress.{has_to_close, is_request_unfinished, is_runnable}, Ranges.ring_size, Same.{is_none, is_number, same_message}, Tests.{is_closing, is_done, is_empty, is_flying, is_gated, is_landed, is_open, is_queued, is_ready, is_resolved, is_settled, is_staged}, World.{Common, Open, Own as Books, Task, no_request, open_of, own_of, request_of, seat_of, sleeper_of, task_of}}
+use Rattle.exec_machine.specs.{declared.{config.Configuration.Configuration, state.{Forwarding.Forwarding, MailMessage.MailMessage, Request.Request, RequestPhase.RequestPhase, TaskPhase.TaskPhase}}, Progress.{has_to_close, is_request_unfinished, is_runnable}, Ranges.ring_size, Same.{is_none, is_number, same_message}, Tests.{has_ended, is_closing, is_done, is_empty, is_flying, is_gated, is_landed, is_open, is_queued, is_ready, is_resolved, is_settled, is_staged}, World.{Common, Open, Own as Books, Task, no_request, open_of, own_of, request_of, seat_of, sleeper_of, task_of}}
 use Rattle.exec_machine.specs.declared.state.Forwarding.TheVariants as forwarding
 use Rattle.exec_machine.specs.declared.state.MailMessage.TheVariants as message
 use Rattle.exec_machine.specs.declared.state.Next.TheVariants as next
@@ -12,11 +12,11 @@ use Rattle.exec_machine.specs.declared.state.RequestPhase.TheVariants as phase
 use Rattle.exec_machine.specs.declared.state.Waiting.TheVariants as waiting
 use Rattle.exec_outcomes.specs.Accounts.{is_durable}
 use Rattle.exec_books.proofs.MinePhases.{gated_open}
-use Rattle.exec_moves.specs.{declared.{handing.{AfterCallbacks.AfterCallbacks, Heard.Heard}, place.{InCallbacks.InCallbacks, Place.Place}}, Plays.{Playing, desk_of}, Poll.is_noted, Seen.next_at, State.{gate_of, inbox_of, queue_of}, Told.has_number}
+use Rattle.exec_moves.specs.{declared.{handing.{AfterCallbacks.AfterCallbacks, Heard.Heard}, place.{InCallbacks.InCallbacks, Place.Place}}, Plays.{Playing, desk_of, first_desk}, Poll.is_noted, Seen.next_at, State.{gate_of, inbox_of, no_queue, queue_of}, Told.has_number}
 use Rattle.exec_books.specs.{Booked.{IsBooked, IsUnderWay}, Listed.is_in}
-use Rattle.exec_rest.specs.{AtRest.{AreBare, AreFresh, IsPlaced, is_unnoted}, Places.is_abed, Posted.IsPosted, Rested.{IsRestful, has_bit, is_in_pool, is_latched, place_at, sleeps}}
+use Rattle.exec_rest.specs.{AtRest.{AreBare, AreFresh, IsPlaced, is_idle, is_unnoted}, Places.is_abed, Posted.IsPosted, Rested.{IsRestful, has_bit, is_in_pool, is_latched, place_at, sleeps}}
 use Rattle.exec_rest.proofs.Rest.{Abed, abed, none_or_some}
-use Rattle.exec_settled.specs.{Awaited.{IsAwaited, IsToBeWoken, IsToHear}, Given.{IsGiven, WaitsFor, gives_up, in_line}, Parked.{HasNothingToDo, IsBeingWoken, IsHeldUp, IsParked, IsUp, NobodySleepsOnWork, NoneIsForgotten, WaitsForRequest}, Permits.{IsPermitted, is_past}, Settled.{HasSubmitted, HasTold, IsSettled}}
+use Rattle.exec_settled.specs.{Awaited.{IsAwaited, IsToBeWoken, IsToHear}, Given.{IsGiven, WaitsFor, gives_up, in_line}, Parked.{HasNoneInHand, HasNothingToDo, IsBeingWoken, IsHeldUp, IsParked, IsUp, NobodySleepsOnWork, NoneIsForgotten, WaitsForRequest}, Permits.{IsPermitted, is_past}, Settled.{HasSubmitted, HasTold, IsSettled}}
 use Rattle.exec_settled.proofs.{PermittedSteps.unresolved_if, Resting.{abed_past, cancels_told, entered, none_comes, none_fires, submitted, tests, told_asleep}, Undone.{eight, enroll_case}}
 
 -- a task that is to be polled, or was woken in a poll
@@ -285,6 +285,16 @@ module _ (c : Configuration) (x : Playing) (placed : IsPlaced c x) (given : IsGi
           | inr signalled ↦ IsBeingWoken.Signalled signalled
         ]
 
+    none_in_hand : (i : ℕ) → (sleeps c x i || has_ended (seat_of s i).phase) ≡ true → HasNoneInHand c x i
+    none_in_hand i off = elim (cases_lt i (length x.desks)) [
+      | inl there ↦ let idle : is_idle (place_at c x i) ≡ true = grind (arith, or_cases, held.abed, placed.over) in
+          record { hand = (placed.hands i idle).0; loot = (placed.hands i idle).1; aside = placed.aside i idle }
+      | inr past ↦
+          let desk : desk_of c x i ≡ first_desk c i = get_or_past x.desks i (first_desk c i) past in
+          let queue : queue_of x.things i ≡ no_queue = get_or_past x.things.queues i no_queue (omega (arith, past, placed.laid.desks, placed.laid.queues)) in
+          record { hand = ap (λ d. d.hand) desk; loot = ap (λ d. d.loot) desk; aside = ap (λ q. q.held) queue }
+    ]
+
     pub nobody_sleeps_on_work : NobodySleepsOnWork c x
     nobody_sleeps_on_work =
         record {
@@ -292,6 +302,9 @@ module _ (c : Configuration) (x : Playing) (placed : IsPlaced c x) (given : IsGi
           closing = waits_for_request;
           held_up = λ k going parked. is_held_up k parked going;
           entered = λ i asleep. record { requests = entered c x held booked settled i asleep; cancels = cancels_told c x held booked settled i asleep };
+          hands = none_in_hand;
+          calls = placed.calls;
+          bare = λ i other. (bare.bare i other).0;
           pool = λ opened some. elim (held.covered some) [
             | inl owed ↦ inl owed
             | inr looks ↦ inr (
@@ -309,7 +322,9 @@ pub none_is_forgotten : (c : Configuration) (x : Playing) → IsGiven c x → Is
 none_is_forgotten c x given booked permitted awaited =
     record {
       listed = booked.listed;
-      gated = λ k waits. (booked.lined_up k).waits waits (given.gated k waits).1;
+      lined_up = booked.lined_up;
+      there = λ k waits. (given.gated k waits).1;
+      led = booked.led;
       permitted = permitted;
       waits = given.waits;
       sent = booked.sent;

@@ -6,8 +6,7 @@ use Rattle.exec_words.specs.{declared.head.Head.Head, Generator.stirred, Head.is
 use Rattle.exec_machine.specs.{declared.{config.Configuration.Configuration, event.Event.{Event, TheVariants.{Sleep, Turn}}}, After.own_after, Choice.{Choice, Choice.Plain}, Deadlines.next_due, World.{Common, Own as Books}}
 use Rattle.exec_moves.specs.declared.idling.{AfterWait.AfterWait, InLook.InLook, InScan.InScan, InSearch.InSearch, InWordWait.InWordWait, Scan.Scan}
 use Rattle.exec_moves.specs.declared.place.Place.{Place}
-use Rattle.exec_moves.specs.{Callback.{has_requests, is_of_pool}, Load.{has_come, has_mail, leaves_for_turn}, Look.{after_withdrawal, look_at_mirror, looks_from, past_own, searching_if}, Move.{move_at, move_look, move_scan, move_search, move_word_wait}, Pop.same_head, Search.{begun_scan, from_of, half, judge_head, judge_tail, looks_at, past}, State.{Desk, Moved, Things, does, queue_of, word_of}, Wait.{after_sleep, first_search, goes_back, noting_sleep, waits, withdraws}}
-use Rattle.exec_moves.specs.Search.{past_own as past_own_queue}
+use Rattle.exec_moves.specs.{Callback.{has_requests, is_of_pool}, Load.{has_come, has_mail, leaves_for_turn}, Look.{after_withdrawal, look_at_mirror, looks_from, past_own, searching_if}, Move.{move_at, move_look, move_scan, move_search, move_word_wait}, Pop.same_head, Search.{begun_scan, from_of, half, judge_head, judge_tail, looks_at, past, past_own_queue}, State.{Desk, Moved, Things, does, queue_of, word_of}, Wait.{after_sleep, first_search, goes_back, noting_sleep, waits, withdraws}}
 use Rattle.exec_moves.specs.declared.idling.AfterWait.TheVariants as next
 use Rattle.exec_moves.specs.declared.idling.InLook.TheVariants as look
 use Rattle.exec_moves.specs.declared.idling.InScan.TheVariants as scan

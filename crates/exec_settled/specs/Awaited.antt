@@ -17,7 +17,8 @@ module _ (c : Configuration) (x : Playing) where
   abbrev pub IsToBeWoken : ℕ → ℕ → Type 0
   IsToBeWoken i t = (is_runnable (task_of s t).phase ≡ true) ⊎ (has_number t (desk_of c x i).wakes ≡ true)
 
-  -- the end of this was sent: its worker wakes the task next, or the task is to be polled, or looks at what was sent next
+  -- the end of this was sent: its worker wakes the task next, or the task is to be polled, was woken in its poll, or looks at what was
+  -- sent next
   abbrev pub IsToHear : ℕ → ℕ → Heard → Type 0
   IsToHear i t of =
       ((n : AfterCallbacks) × (place_at c x i ≡ Place.Callbacks (InCallbacks.WakeWaiter t of) n))

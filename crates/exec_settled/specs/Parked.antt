@@ -4,15 +4,14 @@
 -- Where all sleep there is nobody else who could go on. Where some never sleep, a wake that was lost would show in no state of
 -- that kind: so of each worker that sleeps by itself it is said here that nothing is left for it to do. In between, while it is
 -- being woken, it is known whose step comes next.
-use Rattle.std.specs.Prelude.{◌≡◌, ◌≢◌, ℕ, Bool, true, false, ◌||◌, ◌⊎◌, [], nat_lt, slice_get, Some}
-use Rattle.exec_machine.specs.{declared.{config.Configuration.Configuration}, Progress.{has_to_close, is_cancel_untold, is_request_unfinished, is_runnable, is_sleeper_unfinished}, Ranges.ring_size, Tests.{is_closing, is_done, is_flying, is_gated, is_landed, is_open, is_queued, is_resolved, is_staged}, World.{Common, Task, World, open_of, own_of, request_of, seat_of, sleeper_of, task_of}}
+use Rattle.std.specs.Prelude.{◌≡◌, ◌≢◌, ℕ, ◌<◌, Bool, true, false, ◌||◌, ◌⊎◌, [], length, nat_lt, slice_get, Some, None}
+use Rattle.exec_machine.specs.{declared.{config.Configuration.Configuration}, Progress.{has_to_close, is_cancel_untold, is_request_unfinished, is_runnable, is_sleeper_unfinished}, Ranges.ring_size, Tests.{has_ended, is_closing, is_done, is_flying, is_gated, is_landed, is_open, is_queued, is_resolved, is_staged}, World.{Common, Task, open_of, own_of, request_of, seat_of, sleeper_of, task_of}}
 use Rattle.exec_machine.specs.declared.state.Forwarding.TheVariants.{Sent}
 use Rattle.exec_machine.specs.declared.state.MailMessage.TheVariants as message
-use Rattle.exec_machine.specs.declared.state.Next.TheVariants as next
 use Rattle.exec_machine.specs.declared.state.Waiting.TheVariants as waiting
-use Rattle.exec_moves.specs.{declared.place.{InPoll.InPoll, Place.Place}, Plays.Playing, State.queue_of}
-use Rattle.exec_rest.specs.Rested.{IsOwed, IsRaised, IsSignalled, is_in_pool, is_latched, place_at, sleeps}
-use Rattle.exec_books.specs.{Booked.{IsUnderWay, stands_at}, Listed.AreListed}
+use Rattle.exec_moves.specs.{declared.place.{InPoll.InPoll, Place.Place}, Plays.{Playing, caller_of, desk_of}, State.queue_of}
+use Rattle.exec_rest.specs.{Places.is_in_call, Rested.{IsOwed, IsRaised, IsSignalled, is_in_pool, is_latched, place_at, sleeps}}
+use Rattle.exec_books.specs.{Booked.{AreLinedUp, IsLed, IsUnderWay}, Listed.AreListed}
 use Rattle.exec_settled.specs.{Awaited.IsAwaited, Given.{NobodyWaitsInVain, WaitsFor}, Permits.{IsHanded, IsPassing, IsPermitted}}
 
 -- a request of worker i has the permit of its open, and wasn't granted it; somebody passes that on by a step that comes next
@@ -78,6 +77,12 @@ module _ (c : Configuration) (x : Playing) where
     pub requests : (k : ℕ) → (request_of s k).worker ≡ i → (is_staged (request_of s k).phase ≡ false) × (is_landed (request_of s k).phase ≡ false)
     pub cancels : is_cancel_untold s (own_of x.world i) ≡ false
 
+  -- It has no runnable in its hand, none among those that it moved out of a queue, and none kept aside of its own.
+  pub record HasNoneInHand (i : ℕ) : Type 0 where
+    pub hand : (desk_of c x i).hand ≡ None
+    pub loot : (desk_of c x i).loot ≡ []
+    pub aside : (queue_of x.things i).held ≡ []
+
   abbrev pub IsPoolAtWork : Type 0
   IsPoolAtWork = (i : ℕ) → is_in_pool c x i ≡ true → is_open (seat_of s i).phase ≡ true
 
@@ -88,21 +93,24 @@ module _ (c : Configuration) (x : Playing) where
     pub held_up : (k : ℕ) → is_resolved (request_of s k).phase ≡ false → IsParked c x (request_of s k).worker → IsHeldUp k
     -- so it is with the kernel of whoever sleeps, also of one that closes or is woken next
     pub entered : (i : ℕ) → sleeps c x i ≡ true → HasEnteredAll i
+    -- Nobody keeps a runnable to itself: who sleeps or has ended has none in hand, nor has a caller outside a call; and none lies
+    -- in the run queue of a worker that isn't of the pool.
+    pub hands : (i : ℕ) → (sleeps c x i || has_ended (seat_of s i).phase) ≡ true → HasNoneInHand i
+    pub calls : (j : ℕ) → is_in_call (caller_of x j).place ≡ false → (caller_of x j).hand ≡ None
+    pub bare : (i : ℕ) → is_in_pool c x i ≡ false → (queue_of x.things i).values ≡ []
     -- while something lies in the global queue somebody looks for a worker, or one of the pool is awake or is woken next, until
     -- one of these closes
     pub pool : IsPoolAtWork → (x.things.global ≡ [] → ⊥) → IsOwed c x ⊎ ((i : ℕ) × (is_in_pool c x i ≡ true) × ((sleeps c x i ≡ false) ⊎ IsBeingWoken c x i))
 
--- the request has the permit of its open, or waits for it there, or joins by the next line of its worker
-abbrev pub IsAtGate : World → ℕ → Type 0
-IsAtGate w k = let it = request_of w.common k in (stands_at (open_of w.common it.operation.target) k ≡ true) ⊎ ((own_of w it.worker).next ≡ next.Joins k)
-
 -- NO REQUEST IS FORGOTTEN, NOR ITS END, also where nobody sleeps: each stands in the lists of its worker for what it waits for,
--- and at the gate of its open where that is the permit; a permit comes to who has it; nobody waits in vain; who waits elsewhere
--- has told the worker of that, or a message is under way; and who waits for what has come is woken, or is told first where that
--- was elsewhere.
+-- and at the gate of its open where that is the permit, which somebody has then; a permit comes to who has it; nobody waits in vain;
+-- who waits elsewhere has told the worker of that, or a message is under way; and who waits for what has come is woken, or is told
+-- first where that was elsewhere.
 pub record NoneIsForgotten (c : Configuration) (x : Playing) : Type 0 where
   pub listed : AreListed x.world
-  pub gated : (k : ℕ) → is_gated (request_of x.world.common k).phase ≡ true → IsAtGate x.world k
+  pub lined_up : AreLinedUp x.world
+  pub there : (k : ℕ) → is_gated (request_of x.world.common k).phase ≡ true → (request_of x.world.common k).operation.target < length x.world.common.opens
+  pub led : (file : ℕ) → IsLed (open_of x.world.common file)
   pub permitted : IsPermitted c x
   pub waits : NobodyWaitsInVain x.world.common
   pub sent : (k : ℕ) → (request_of x.world.common k).forwarding ≡ Sent → IsUnderWay (message.ForwardRequest k) (seat_of x.world.common (request_of x.world.common k).worker)

@@ -21,9 +21,9 @@ pub fn what_is_settled_stays_so()
 {}
 
 /// Whoever sleeps has nothing to do, whatever the others do meanwhile, or somebody's next step wakes it; and who closes sleeps
-/// only while a request of its own isn't over, each of which is held up. While something lies
-/// in the global queue somebody looks for a worker, or one of the pool is awake or is woken next. And no request is forgotten,
-/// whether anybody sleeps or not.
+/// only while a request of its own isn't over, each of which is held up. No runnable is left in the hand of who sleeps, has ended
+/// or is in no call. While something lies in the global queue somebody looks for a worker, or one of the pool is awake or is woken
+/// next. And no request is forgotten, whether anybody sleeps or not.
 pub fn nobody_sleeps_on_work()
     ensures parked { (c : Configuration) (x : Playing) → IsPlaced c x → IsGiven c x → IsRestful c x → IsBooked x.world → IsSettled c x →
         IsPermitted c x → AreBare c x → IsPosted c x → AreFresh x → IsAwaited c x → NobodySleepsOnWork c x }

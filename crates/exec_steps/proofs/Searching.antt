@@ -3,7 +3,7 @@ use Rattle.std.proofs.{Common.{◌≡◌, ◌≢◌, ℕ, ◌+◌, ◌-◌, ◌*
 use Rattle.exec_words.specs.{Generator.stirred, Idle.Idle, Queue.{Queue, head_of, room_of, tail_of}, declared.head.Head.Head}
 use Rattle.exec_task.specs.declared.{body.Said.Said}
 use Rattle.exec_machine.specs.{declared.{config.Configuration.Configuration, event.Event.{Event, TheVariants.Turn}, state.Next.Next}, Choice.Choice.Plain, Progress.Plan}
-use Rattle.exec_moves.specs.{declared.{idling.{InLook.InLook, InScan.InScan, InSearch.InSearch, Scan.Scan}, place.Place.Place}, Move.move_at, Search.{add_search_count, begun_scan, from_of, half, judge_head, load_scan_head, load_search_count, load_their_head, load_their_tail, looks_at, move_half, past, past_own}, Seen.{next_at, serves_at}, State.{Moved, queue_of}}
+use Rattle.exec_moves.specs.{declared.{idling.{InLook.InLook, InScan.InScan, InSearch.InSearch, Scan.Scan}, place.Place.Place}, Move.move_at, Search.{add_search_count, begun_scan, from_of, half, judge_head, load_scan_head, load_search_count, load_their_head, load_their_tail, looks_at, move_half, past, past_own_queue}, Seen.{next_at, serves_at}, State.{Moved, queue_of}}
 use Rattle.exec_parts.{specs.{declared.parts.{seat.Seat.Seat as Chair, shared.Shared.Shared, worker.Worker.Worker}, Spots.Spot, View.{Views, common_of, desk_of, own_of, things_of, things_with}, Things.{Goes, Makes}}, proofs.Facts.{same_number, true_false}}
 use Rattle.exec_invariants.proofs.Showing.{own_queue_seen}
 use Rattle.exec_invariants.{specs.{Kinds.lowered, Places.{has_count_at, is_published_at}, Sound.{IsScanning, MayClaim, SoundAt, has_wakes_at}, Works.{Steps, Suits}}, proofs.{Dedicated.never_apart, Counting.{Stands, counts_alone, counts_same, stance_at, stance_here}, Handed.{ltb-true, ltb-false, out}, Idled.{Settles, calm_of, gone, led, settles_either}, Turning.queue_back_again}}
@@ -14,7 +14,7 @@ next_other : (n m : ℕ) → 1 < m → (n + 1) % m ≢ n % m
 next_other = grind arith
 
 -- a scan comes to another queue than the own one
-comes_other : (c : Configuration) (i : ℕ) (x : Scan) → (past_own c i x).passed < c.workers → from_of c (past_own c i x) ≢ i
+comes_other : (c : Configuration) (i : ℕ) (x : Scan) → (past_own_queue c i x).passed < c.workers → from_of c (past_own_queue c i x) ≢ i
 comes_other c i x less = by (from_of c x == i) refl less
   where
     by : (b : Bool) → (from_of c x == i) ≡ b → (if b then past x else x).passed < c.workers → from_of c (if b then past x else x) ≢ i
@@ -26,7 +26,7 @@ comes_other c i x less = by (from_of c x == i) refl less
         let yes : (from_of c x == i) ≡ true = rw same (eq-eqb i i refl) in
         true_false (sym yes ∙ is)
 
-still_start : (c : Configuration) (i : ℕ) (x : Scan) → (past_own c i x).start ≡ x.start
+still_start : (c : Configuration) (i : ℕ) (x : Scan) → (past_own_queue c i x).start ≡ x.start
 still_start = grind arith
 
 module _ {B : Type 0} where
@@ -36,11 +36,11 @@ module _ {B : Type 0} where
 
   -- where a scan goes on
   looks_settle : (q : Place) (x : Scan) (w : Worker) (s : Shared B) → calm_of (Place.Look InLook.Publish) ≡ lowered w.role true (calm_of q) → has_wakes_at q ≡ false → HasHalf w s → (false ≡ true → w.batch.values ≡ []) → x.start < s.config.workers → Settles q (looks_at s.config w.index x) (out w.searching) w s
-  looks_settle q x w s same quiet half batch start = by (nat_lt (past_own s.config w.index x).passed s.config.workers) refl
+  looks_settle q x w s same quiet half batch start = by (nat_lt (past_own_queue s.config w.index x).passed s.config.workers) refl
     where
-      by : (b : Bool) → nat_lt (past_own s.config w.index x).passed s.config.workers ≡ b → Settles q (if b then Place.Scan (InScan.LoadTheirHead (past_own s.config w.index x)) else Place.Look InLook.Publish) (out w.searching) w s
+      by : (b : Bool) → nat_lt (past_own_queue s.config w.index x).passed s.config.workers ≡ b → Settles q (if b then Place.Scan (InScan.LoadTheirHead (past_own_queue s.config w.index x)) else Place.Look InLook.Publish) (out w.searching) w s
       by true is =
-          let less : (past_own s.config w.index x).passed < s.config.workers = ltb-true (past_own s.config w.index x).passed s.config.workers is in
+          let less : (past_own_queue s.config w.index x).passed < s.config.workers = ltb-true (past_own_queue s.config w.index x).passed s.config.workers is in
           record { same = same; searches = tt; counts = refl; published = refl; queue = half; aims = (comes_other s.config w.index x less, (rw (still_start s.config w.index x) start, less)); batch = batch; quiet = λ h. quiet }
       by false is = record { same = same; searches = tt; counts = refl; published = refl; queue = λ chair there. (half chair there).0; aims = tt; batch = batch; quiet = λ h. quiet }
 

@@ -1,6 +1,5 @@
 -- What one poll of a task does, from what its body is told first to its last section.
 use Rattle.std.specs.Prelude.{◌≡◌, ℕ, ◌+◌, ◌-◌, ◌^◌, ◌<◌, ◌⊎◌, Option, Some, None}
-use Rattle.exec_base.specs.declared.error.Error.{Error}
 use Rattle.exec_task.specs.{declared.body.Act.Act, declared.body.Said.Said, declared.body.Ended.Ended, declared.poll.Asked.Asked, declared.poll.Turn.Turn, declared.runnable.AfterPoll.AfterPoll, declared.runnable.Runnable.Runnable, Sight.Sight, Sight.WouldGrow}
 
 -- how the task ends, where the act says that its body is through
@@ -31,12 +30,18 @@ module _ {W C B : Type 0} (steps : W → B → Said → Option (Act B) → W →
     pub goes_on : ended_by act ≡ None
     pub carried : carries between p.cell (Asked.CarryOut act) told q.worker q.cell
 
-  -- One turn of a poll: the body is told this, and is through; or its act leaves it waiting; or it is to be told
-  -- what came of its act, also that there was no memory for it.
+  -- there was no memory for the act of one step: who polls was handed what the body was told, and gave this answer
+  pub record HandedBack (p : Polled W C B) (said : Said) (told : Option Said) (q : Polled W C B) : Type 0 where
+    pub between : W
+    pub refused : steps p.worker p.body said None between q.body
+    pub carried : carries between p.cell (Asked.NoMemory said) told q.worker q.cell
+
+  -- One turn of a poll: the body is told this, and is through; or who polls carries out its act, or keeps what it was
+  -- told, and leaves it waiting, or tells it what is next.
   abbrev pub Turns : Polled W C B → Said → Turn → Polled W C B → Type 0
   Turns p said (Turn.Through how) q = (act : Act B) × steps p.worker p.body said (Some act) q.worker q.body × (ended_by act ≡ Some how) × (q.cell ≡ p.cell)
-  Turns p said Turn.Waits q = CarriedOut p said None q
-  Turns p said (Turn.Told told) q = CarriedOut p said (Some told) q ⊎ (steps p.worker p.body said None q.worker q.body × (told ≡ Said.Refused Error.NoMemory) × (q.cell ≡ p.cell))
+  Turns p said Turn.Waits q = CarriedOut p said None q ⊎ HandedBack p said None q
+  Turns p said (Turn.Told told) q = CarriedOut p said (Some told) q ⊎ HandedBack p said (Some told) q
 
   module _ (pends : C → B → AfterPoll → C → Type 0) (ends : C → Ended → AfterPoll → C → Type 0) where
     -- From here, with the body told this, the poll comes to that answer within so many turns, and leaves these. A

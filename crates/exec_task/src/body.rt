@@ -134,7 +134,8 @@ pub trait Body {
         ensures { result ≡ name_of (left self.now) };
 
     /// The next act, once the body is told what came of the last. It takes memory only where the act is a `Register`,
-    /// `Spawn` or `Dedicated`. Where there is none it gives back what it was told, and body and worker are as before.
+    /// `Spawn` or `Dedicated`. Where there is none it gives back what it was told, and body and worker are as before: who
+    /// polls keeps that, and the body is told it again at its next step.
     fn step<A: Around>(
         &mut self,
         alloc: Global,

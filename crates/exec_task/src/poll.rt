@@ -14,7 +14,6 @@ ghost use Rattle.exec_task.specs.{declared.body.Ended.Ended, declared.body.Said.
 use crate::body::{Act, Around, Body, Ended, Said};
 use crate::runnable::{AfterPoll, Runnable};
 use crate::task::Task;
-use exec_base::error::Error;
 use exec_base::task_no::TaskNo;
 use std::alloc::Global;
 
@@ -22,10 +21,13 @@ use std::alloc::Global;
 #[derive(Drop)]
 pub enum Asked<B> {
     /// The poll begins. What is the body told? `Start` at its first poll, later what came of that
-    /// for which it waits; nothing where it still waits.
+    /// for which it waits, or what was kept at `NoMemory`; nothing where it still waits.
     Resume,
     /// The body does this, which is neither `Done` nor `Fault`.
     CarryOut(Act<B>),
+    /// A step of the body got no memory, and this is what it was told. What is it told now? The same, where the step is
+    /// to be made again at once. Nothing, where the poll ends pending; what was told is then kept for the next `Resume`.
+    NoMemory(Said),
 }
 
 /// A task as its poller reaches it. Each call is one section on it.
@@ -113,7 +115,7 @@ pub enum Turn {
     Told(Said),
 }
 
-// One turn: the body makes its next act, and the act is carried out.
+// One turn: the body makes its next act, and the act is carried out. Without memory who polls gets back what it was told.
 fn take_turn<B: Body + Drop, C: TaskCell<B>, W: Carrier<B, C>>(
     alloc: Global,
     body: &mut B,
@@ -125,16 +127,15 @@ fn take_turn<B: Body + Drop, C: TaskCell<B>, W: Carrier<B, C>>(
     ensures turns { Turns (StepsTo B.left B.gives W.sees) W.carries (record { worker = worker.old; cell = cell.old; body = body.old }) said result (record { worker = worker.new; cell = cell.new; body = body.new }) }
     ensures polled { IsTrue (C.is_polled cell.new) }
 {
-    let Ok(act) = body.step(alloc, worker, said) else {
-        return Turn::Told(Said::Refused(Error::NoMemory));
+    let asked = match body.step(alloc, worker, said) {
+        Ok(Act::Done(outcome)) => return Turn::Through(Ended::Done(outcome)),
+        Ok(Act::Fault(code)) => return Turn::Through(Ended::Fault(code)),
+        Ok(act) => Asked::CarryOut(act),
+        Err(untold) => Asked::NoMemory(untold),
     };
-    match act {
-        Act::Done(outcome) => return Turn::Through(Ended::Done(outcome)),
-        Act::Fault(code) => return Turn::Through(Ended::Fault(code)),
-        act => match worker.carry_out(cell, Asked::CarryOut(act)) {
-            Some(told) => Turn::Told(told),
-            None => Turn::Waits,
-        },
+    match worker.carry_out(cell, asked) {
+        Some(told) => Turn::Told(told),
+        None => Turn::Waits,
     }
 }
 
@@ -164,8 +165,8 @@ impl Runnable {
     /// Polls its task once: begins the poll, steps the body and carries out its acts until the poll ends, and ends it.
     /// `owner` is the identity of the task set (`Tasks::id`), `cell` the task, and `worker` is who polls: what the body
     /// sees, and how its acts are carried out. The caller must have the runnable of this task, which belongs to this
-    /// set. A stale one is discarded. It takes no memory but for the body's acts; a body that gets none for an act is
-    /// told so by `Refused(NoMemory)`. A poll ends after at most 2^64 - 1 steps of its body; the task is then ended as
+    /// set. A stale one is discarded. It takes no memory but for the body's acts; where a body gets none for an act,
+    /// `worker` is handed what the body was told (`Asked::NoMemory`). A poll ends after at most 2^64 - 1 steps of its body; the task is then ended as
     /// if it had been cleared.
     pub fn poll<B: Body + Drop, C: TaskCell<B>, W: Carrier<B, C>>(
         self,

@@ -19,16 +19,20 @@ use exec_base::task_no::TaskNo;
 use std::alloc::{AllocError, Global};
 use std::collections::BTreeMap;
 use std::marker::Model;
+use thiserror::Error;
 
 /// How many shards there are for each worker, once their number is rounded up to a power of two.
 pub const SHARDS_PER_WORKER: usize = 4;
 
-/// Why a task wasn't taken, with what was to be held of it. The set is as it was.
-#[derive(Debug, Drop)]
+/// Why a task wasn't taken, with what was to be held of it. The set is as it was. `Display` is the name of the reason,
+/// as [`exec_base::error::Error`] has it.
+#[derive(Debug, Drop, Error)]
 pub enum Refusal<T> {
     /// The set is closed.
+    #[error("Closed")]
     Closed(T),
     /// There was no memory.
+    #[error("NoMemory")]
     NoMemory(T),
 }
 

@@ -18,6 +18,7 @@ use exec_request::request::Request;
 use exec_ring::store::Store;
 use exec_task::runnable::Runnable;
 use exec_task::task::Task;
+use exec_task::tasks::Tasks;
 use exec_waiters::deferred::Deferred;
 use exec_waiters::observer::Observer;
 use std::alloc::{AllocError, Global};
@@ -70,18 +71,15 @@ fn a_worker_polls_tasks_of_its_own_set_until_it_closes(rt: HostRuntime) -> Resul
     let alloc = rt.alloc();
     let mut seat = Seat::new(alloc, true)?;
     let mut worker = worker(alloc, &mut Store::new(alloc))?;
-    let local = Local {
-        worker: &mut worker,
-        seat: &mut seat,
-        workers: 1,
-        tasks: OWN,
-    };
+    let tasks = Tasks::new(alloc, 1)?;
+    let local = Local::new(&mut worker, &mut seat, &tasks);
     holds!(&rt; local.serves(OWN));
     holds!(&rt; !local.serves(OWN + 1));
     holds!(&rt; local.role() == Role::Pool(0));
     holds!(&rt; local.workers() == 1);
-    local.worker.home.closing = true;
-    holds!(&rt; !local.serves(OWN));
+    worker.home.closing = true;
+    let closing = Local::new(&mut worker, &mut seat, &tasks);
+    holds!(&rt; !closing.serves(OWN));
     drop(worker);
     Ok(())
 }
@@ -91,12 +89,8 @@ fn a_runnable_goes_into_the_run_queue(rt: HostRuntime) -> Result<(), Fail> {
     let alloc = rt.alloc();
     let mut seat = Seat::new(alloc, true)?;
     let mut worker = worker(alloc, &mut Store::new(alloc))?;
-    let mut local = Local {
-        worker: &mut worker,
-        seat: &mut seat,
-        workers: 1,
-        tasks: OWN,
-    };
+    let tasks = Tasks::new(alloc, 1)?;
+    let mut local = Local::new(&mut worker, &mut seat, &tasks);
     let before = local.ready().len();
     local.enqueue(runnable(1));
     let after = local.ready().len();
@@ -127,12 +121,8 @@ fn a_request_that_nobody_waits_for_is_let_go(rt: HostRuntime) -> Result<(), Fail
     };
     let has_one = worker.has_requests() && !worker.has_callbacks();
     make_room(&rt, alloc, &mut worker.home.deferred);
-    let mut local = Local {
-        worker: &mut worker,
-        seat: &mut seat,
-        workers: 1,
-        tasks: OWN,
-    };
+    let tasks = Tasks::new(alloc, 1)?;
+    let mut local = Local::new(&mut worker, &mut seat, &tasks);
     local.cancel(id);
     holds!(&rt; has_one);
     holds!(&rt; !worker.has_requests());

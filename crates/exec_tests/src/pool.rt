@@ -57,21 +57,23 @@ fn is_asleep(log: &str, worker: &str, roused: &str) -> bool {
     asleep && refused
 }
 
-/// Whether the task of a caller was polled once, by one of the workers, and both are asleep at the end.
+/// Whether the call returned once, and its task was polled once, by one of the workers, and both are asleep at the end.
 fn is_good(log: &[u8]) -> bool {
     let Ok(log) = str::from_utf8(log) else {
         return false;
     };
-    has_one(log, "w 0 begin 2", "w 1 begin 2")
+    count_of(log, "x 0 return") == 1
+        && has_one(log, "w 0 begin 2", "w 1 begin 2")
         && has_one(log, "w 0 done 2", "w 1 done 2")
         && is_asleep(log, "w 0 ", "0")
         && is_asleep(log, "w 1 ", "1")
 }
 
-/// The quiet log of a spawn by a caller, after worker one has taken so many steps towards its sleep.
+/// The quiet log of a spawn by a caller, after worker one has taken so many steps towards its sleep. The caller is asked for
+/// more steps than a call has.
 fn spawn_after(alloc: Global, steps: usize) -> Result<Vec<u8>, Fail> {
     let mut text = format!(in alloc; "{HEADER}{WAITING}w 1 {steps}\nx 0 spawn 0\n")?;
-    for _ in 0..8 {
+    for _ in 0..40 {
         text.push_str("x 0\n")?;
     }
     text.push_str("w 1 4000\nw 0 4000\nw 1 4000\n")?;

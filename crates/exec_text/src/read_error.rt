@@ -3,13 +3,17 @@
 ghost use Rattle.std.specs.Prelude.{◌≡◌};
 ghost use Rattle.exec_text.specs.declared.read_error.ReadError.TheVariants.{Syntax};
 
-/// Why a text was not read.
-#[derive(Clone, Copy, Debug, PartialEq, Eq)]
+use thiserror::Error;
+
+/// Why a text was not read. `Display` has the words in which the program complains, without `error`.
+#[derive(Clone, Copy, Debug, PartialEq, Eq, Error)]
 pub enum ReadError {
     /// This line, counted from 1, is the first at which the text is no trace. Where the text ends too
     /// early it's the line after the last.
+    #[error("Syntax {0}")]
     Syntax(usize),
     /// The text is a trace, and there was no memory for it.
+    #[error("NoMemory")]
     NoMemory,
 }
 

@@ -28,6 +28,13 @@ is_local (Registered at _) worker = at == worker
 is_local (Forwarded _ _) worker = false
 is_local Done worker = true
 
+-- the sleeper that it may have, with its worker
+abbrev pub sleeper_of : SleepState → Option (ℕ × TimerId)
+sleeper_of (Waiting _) = None
+sleeper_of (Registered at id) = Some (at, id)
+sleeper_of (Forwarded at id) = Some (at, id)
+sleeper_of Done = None
+
 -- the sleep has a new sleeper of this worker, under an id that nothing had before, and no other sleeper came or went
 pub record Registers {S : Type 0} (new : SleepState) (before after : Slab (Sleeper S)) (worker deadline : ℕ) (waker : TaskNo) : Type 0 where
   pub id : TimerId
@@ -45,6 +52,11 @@ pub record IsRefused {S : Type 0} (old new : SleepState) (before after : Slab (S
   pub kept : after ≡ before
 
 module _ {S P : Type 0} (is_closed : P → Bool) (taken : P → Option (List (TimerMessage S))) where
+  -- the post took the message, or was closed and took nothing
+  abbrev pub Sends : P → P → TimerMessage S → Type 0
+  Sends old new message =
+      Takes (taken old) message (taken new) ⊎ ((is_closed new ≡ true) × (taken new ≡ taken old))
+
   -- the post took the message that the sleeper of this id sends its result by this, and the one-shot was looked at
   pub record IsAsked (old new : P) (at : ℕ) (id : TimerId) (sender : S) (state : SleepState) (before after : OneShotState (Result (Unit {0}) Error)) (answer : Result Bool Error) : Type 0 where
     pub took : Takes (taken old) (Forward id sender) (taken new)

@@ -1,7 +1,7 @@
 //! Worked examples of wheels, sleepers and sleeps, proved by computation.
 
 ghost use Rattle.std.specs.Prelude.{◌≡◌, ℕ, ◌+◌, ◌-◌, ◌^◌, [], ◌∷◌, Some, None, Ok, Err, true, false};
-ghost use Rattle.exec_time.specs.{Layouts.{slots_of, longest}, Wheel.{target_of, scheduled, removed, next_moment}, Turning.advanced, WheelExamples.{ms, name, short, late, three_ahead, two_ahead, one_stale, two_left}, Sleepers.{wakes_of, completions_of, is_forwarded, observation, displaced, deadline_at, left_at, IsFirst, IsDue, IsLowest}, SleepExamples.{task, named, local, forwarded, two}, Sleep.{asleep, heard, after_hearing}, declared.timers.{TimerId.TimerId as TimerName, Observation.TheVariants.{Ready, Pending, Refresh}}};
+ghost use Rattle.exec_time.specs.{Layouts.{slots_of, longest}, Wheel.{target_of, scheduled, removed, next_moment}, Turning.advanced, WheelExamples.{ms, name, short, late, three_ahead, two_ahead, one_stale, two_left}, Sleepers.{wakes_of, completions_of, is_forwarded, observation, displaced, deadline_at, left_at, IsFirst, IsDue, IsLowest}, SleepExamples.{task, named, local, forwarded, two}, Sleep.{asleep, heard, after_hearing, sleeper_of}, declared.timers.{TimerId.TimerId as TimerName, Observation.TheVariants.{Ready, Pending, Refresh}}};
 ghost use Rattle.exec_base.specs.Slab.{value_at, removed as gone_from};
 ghost use Rattle.exec_base.specs.declared.error.Error.TheVariants as error;
 ghost use Rattle.exec_time.specs.declared.sleep.SleepState.TheVariants as state;
@@ -88,6 +88,14 @@ pub fn sleeps()
     ensures short { asleep 1 5 ≡ state.Waiting 6 }
     ensures cut { asleep (2 ^ 64 - 1) 5 ≡ state.Waiting (longest + 5) }
     ensures last { asleep 9 (2 ^ 64 - 1) ≡ state.Waiting (2 ^ 64 - 1) }
+{}
+
+/// Which sleeper is let go with a sleep: it is removed, and who hears of it elsewhere is told.
+pub fn releases()
+    ensures registered { (id : TimerName) → sleeper_of (state.Registered 3 id) ≡ Some (3, id) }
+    ensures forwarded { (id : TimerName) → sleeper_of (state.Forwarded 4 id) ≡ Some (4, id) }
+    ensures none_yet { sleeper_of (asleep 1 5) ≡ None }
+    ensures over { sleeper_of (asleep 0 5) ≡ None }
 {}
 
 /// What a forwarded sleep hears.

@@ -13,13 +13,17 @@
 //!
 //! The sleeper belongs to its worker. A task that goes to another worker has only the id, and asks by a message. An
 //! error ends the sleep, but for want of room for a sleeper, which leaves all as it was.
+//!
+//! A sleep can't be dropped: who doesn't want it any more lets it go by `release`, also where it is over. Its sleeper
+//! is then removed, here where it is this worker's, and elsewhere by a message.
 
-ghost use Rattle.std.specs.Prelude.{◌≡◌, ◌≢◌, ℕ, ◌-◌, ◌<◌, ◌≤◌, Some, None, Ok, Err, true, false, IfOk, OnOk, IfErr};
-ghost use Rattle.exec_time.specs.{declared.{sleep.TimerMessage.TheVariants.Forward, timers.{Observer.TheVariants.Local, Sleeper.Sleeper as Sleeping, TimerId.TimerId as TimerName}}, Sleepers.is_forwarded};
-ghost use Rattle.exec_base.specs.{OneShot.{poll_answer, polled}, Slab.{value_at, written}};
+ghost use Rattle.std.specs.Prelude.{◌≡◌, ◌≢◌, ℕ, ◌-◌, ◌<◌, ◌≤◌, [], Some, None, Ok, Err, true, false, IfOk, OnOk, IfErr};
+ghost use Rattle.exec_time.specs.{declared.{sleep.TimerMessage.TheVariants.{Cancel, Forward}, timers.{Observer.TheVariants.Local, Sleeper.Sleeper as Sleeping, TimerId.TimerId as TimerName}}, Sleepers.{is_forwarded, completions_of}, Notes.{Adds, HasRoom}};
+ghost use Rattle.exec_base.specs.{OneShot.{poll_answer, polled}, Slab.{value_at, removed, written}};
 ghost use Rattle.exec_base.specs.declared.error.Error.TheVariants as error;
 ghost use Rattle.exec_time.specs.declared.sleep.SleepState.TheVariants as state;
 
+use crate::notes::Notes;
 use crate::timers::{TimerId, Timers};
 use crate::wheel::TimeoutWheel;
 use exec_base::error::Error;
@@ -63,7 +67,6 @@ pub struct Here {
 }
 
 /// A sleep. Ports `Sleep`.
-#[derive(Drop)]
 pub struct Sleep {
     state: SleepState,
 }
@@ -77,7 +80,7 @@ impl Model for Sleep {
 }
 
 impl Sleep {
-    ghost use Rattle.exec_time.specs.Sleep.{asleep, heard, after_hearing, is_local, Registers, Asks, IsRefused};
+    ghost use Rattle.exec_time.specs.Sleep.{asleep, heard, after_hearing, is_local, sleeper_of, Registers, Asks, Sends, IsRefused};
 
     /// A sleep for `duration` nanoseconds from `now` on. None at all is over at once, and more than
     /// `TimeoutWheel::MAX_TIMEOUT` is cut to that.
@@ -131,8 +134,9 @@ impl Sleep {
     /// a sleeper of its own worker isn't forwarded but by the sleep itself.
     ///
     /// `Closed` comes only where this worker closes, where the post or the one-shot is closed, or where it is the
-    /// result that was sent; `Full` and `NoMemory` only where a sleeper is to be made, as `Timers::insert` has them, and
-    /// then nothing changes. Any other error ends the sleep.
+    /// result that was sent. A closing worker makes no sleeper, and a poll there leaves the one that the sleep had, which
+    /// goes with the worker's others (`Timers::clear`). `Full` and `NoMemory` come only where a sleeper is to be made, as
+    /// `Timers::insert` has them, and then nothing changes. Any other error ends the sleep.
     pub fn poll<S: Drop, P: Post<TimerMessage<S>>>(
         &mut self,
         alloc: Global,
@@ -161,6 +165,48 @@ impl Sleep {
             self.poll_here(alloc, waker, here, timers)
         } else {
             self.poll_elsewhere(sender, post, answer)
+        }
+    }
+
+    /// Lets the sleep go by the worker `worker`: nothing comes of its sleeper any more. One of this worker is removed
+    /// without a wake, and has `Closed` sent where it is forwarded. One of another worker is removed there, by a message
+    /// that only a closed post refuses, since a worker that is gone has let all go. Nothing is to be done for a sleep
+    /// without a sleeper.
+    ///
+    /// The caller must have reserved a place for that message, and made room for one wake and one completion. Stands
+    /// for the drop of a sleep.
+    pub fn release<S: Drop, P: Post<TimerMessage<S>>>(
+        self,
+        worker: u32,
+        timers: &mut Timers<S>,
+        notes: &mut Notes<S>,
+        post: &mut P,
+    )
+        requires room { (id : TimerName) → sleeper_of self ≡ Some (worker, id) → HasRoom notes.old 1 }
+        requires place { (at : ℕ) (id : TimerName) → sleeper_of self ≡ Some (at, id) → at ≢ worker → P.has_place post.old (Cancel id) }
+        ensures removed { (id : TimerName) (sleeper : Sleeping S) → sleeper_of self ≡ Some (worker, id) → value_at timers.old id.0 ≡ Some sleeper → (timers.new ≡ removed timers.old id.0) × Adds notes.old notes.new [] (completions_of (Err error.Closed) sleeper.observer) }
+        ensures gone { (id : TimerName) → sleeper_of self ≡ Some (worker, id) → value_at timers.old id.0 ≡ None → (timers.new ≡ timers.old) × Adds notes.old notes.new [] [] }
+        ensures here { (id : TimerName) → sleeper_of self ≡ Some (worker, id) → post.new ≡ post.old }
+        ensures elsewhere { (at : ℕ) (id : TimerName) → sleeper_of self ≡ Some (at, id) → at ≢ worker → (timers.new ≡ timers.old) × (notes.new ≡ notes.old) × Sends P.closed P.taken post.old post.new (Cancel id) }
+        ensures over { sleeper_of self ≡ None → (timers.new ≡ timers.old) × (notes.new ≡ notes.old) × (post.new ≡ post.old) }
+    {
+        match self.sleeper() {
+            Some((at, id)) if at == worker => timers.cancel(id, notes),
+            Some((_, id)) => {
+                let _sent = post.send(TimerMessage::Cancel(id));
+            }
+            None => {}
+        }
+        let Sleep { state: _over } = self;
+    }
+
+    /// The sleeper that it may have, with its worker's number. None where it has none yet, or is over.
+    pub fn sleeper(&self) -> Option<(u32, TimerId)>
+        ensures { result ≡ sleeper_of self.now }
+    {
+        match self.state {
+            SleepState::Registered(at, id) | SleepState::Forwarded(at, id) => Some((at, id)),
+            SleepState::Waiting(_) | SleepState::Done => None,
         }
     }
 

@@ -13,7 +13,7 @@ ghost use Rattle.exec_time.specs.{Layouts.{slots_of, is_out_of_range as out_of_r
 
 use crate::entries::{Entry, collect, discard, has_any, make_way, put};
 use crate::ticks::{is_among, join, least, leave};
-use exec_base::limits::LONGEST_TIMEOUT;
+use exec_base::limits::{LONGEST_TIMEOUT, MOST_SLOTS};
 use exec_base::slab::Id;
 use std::alloc::{AllocError, Global};
 use std::collections::VecDeque;
@@ -69,12 +69,9 @@ impl TimeoutWheel {
     /// The longest horizon and the longest tick: 30 years of 365 days.
     pub const MAX_TIMEOUT: u64 = LONGEST_TIMEOUT;
 
-    /// The largest number of slots.
-    const MAX_SLOTS: u64 = 1_048_576;
-
     /// The number of slots of a wheel with this horizon and tick, both in nanoseconds: the least power of two
     /// that is the ticks of the horizon and two more. `Layout` where the horizon or the tick is 0 or above
-    /// `MAX_TIMEOUT`, or the slots are above 1,048,576.
+    /// `MAX_TIMEOUT`, or the slots are above `MOST_SLOTS`.
     pub fn validate_layout(horizon: u64, tick: u64) -> Result<usize, Layout>
         ensures { MatchResult result (λ slots. slots_of horizon tick ≡ Some slots) (λ _. slots_of horizon tick ≡ None) }
     {
@@ -82,7 +79,7 @@ impl TimeoutWheel {
             return Err(Layout);
         }
         let needed = horizon.div_ceil(tick) + 2;
-        if needed > Self::MAX_SLOTS {
+        if needed > MOST_SLOTS {
             return Err(Layout);
         }
         Ok(needed.next_power_of_two() as usize)

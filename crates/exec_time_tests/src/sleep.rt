@@ -2,7 +2,7 @@
 
 ghost use Rattle.std.specs.Prelude.{◌≡◌, ◌+◌, ◌≤◌, Some, IsTrue, false, vec_len, vec_capacity};
 ghost use Rattle.exec_base.specs.Slab.{value_at};
-ghost use Rattle.exec_time.specs.{Sleepers.is_forwarded, declared.timers.TimerId.TimerId as TimerName};
+ghost use Rattle.exec_time.specs.{Notes.HasRoom, Sleepers.is_forwarded, declared.timers.TimerId.TimerId as TimerName};
 ghost use Rattle.exec_time.specs.declared.sleep.SleepState.TheVariants as state;
 
 use crate::found::{holds, same};
@@ -86,25 +86,39 @@ fn may_poll(sleep: &Sleep, timers: &Timers<u32>, post: &Inbox) -> bool
     own && post.messages.len() < post.messages.capacity()
 }
 
+/// Whether a sleep may be let go: there is room for what is to be told, and for a message.
+fn may_release(notes: &Notes<u32>, post: &Inbox) -> bool
+    ensures room { IsTrue result → HasRoom notes.now 1 }
+    ensures place { IsTrue result → vec_len post.now.messages + 1 ≤ vec_capacity post.now.messages }
+{
+    notes.wakes.len() < notes.wakes.capacity()
+        && notes.completions.len() < notes.completions.capacity()
+        && post.messages.len() < post.messages.capacity()
+}
+
 /// The first sleeper that a worker makes.
 const FIRST: TimerId = TimerId(Id {
     index: 0,
     generation: 0,
 });
 
-/// The sleepers of worker 3, the way to them, and where a result comes to.
+/// The sleepers of worker 3, what is to be told of them, the way to them, and where a result comes to.
 #[derive(Drop)]
 struct Bed {
     timers: Timers<u32>,
+    notes: Notes<u32>,
     post: Inbox,
     answer: OneShot<Result<(), Error>>,
 }
 
 impl Bed {
-    /// No sleepers, and a post that is open.
+    /// No sleepers, room for a note of each kind, and a post that is open.
     fn new(alloc: Global) -> Result<Self, Fail> {
+        let mut notes = Notes::new(alloc);
+        notes.reserve(alloc, 1)?;
         Ok(Bed {
             timers: Timers::new(alloc),
+            notes,
             post: open_post(alloc)?,
             answer: OneShot::new(),
         })
@@ -123,23 +137,39 @@ impl Bed {
         holds!(rt; may);
         sleep.poll(alloc, TaskNo(1), here, timers, 7, post, answer)
     }
+
+    /// A sleep from 5 to 15 that worker 3 has polled at 5.
+    fn begun(&mut self, rt: &impl Abort, alloc: Global) -> Sleep {
+        let mut sleep = Sleep::new(10, 5);
+        let first = self.poll(rt, alloc, &mut sleep, home(5));
+        same!(rt; first, Ok(false));
+        holds!(rt; matches!(sleep.state(), SleepState::Registered(3, FIRST)));
+        sleep
+    }
+
+    /// Lets a sleep go at this worker.
+    fn release(&mut self, rt: &impl Abort, sleep: Sleep, worker: u32) {
+        let may = may_release(&self.notes, &self.post);
+        holds!(rt; may);
+        sleep.release(worker, &mut self.timers, &mut self.notes, &mut self.post);
+    }
 }
 
 #[test]
 fn a_sleep_is_over_once_its_sleeper_fired(rt: HostRuntime) -> Result<(), Fail> {
     let alloc = rt.alloc();
-    let (mut bed, mut notes) = (Bed::new(alloc)?, Notes::new(alloc));
-    let mut sleep = Sleep::new(10, 5);
-    let first = bed.poll(&rt, alloc, &mut sleep, home(14));
-    same!(&rt; first, Ok(false));
-    holds!(&rt; matches!(sleep.state(), SleepState::Registered(3, FIRST)));
+    let mut bed = Bed::new(alloc)?;
+    let mut sleep = bed.begun(&rt, alloc);
     same!(&rt; (bed.timers.len(), bed.timers.next_deadline()), (1, Some(15)));
-    notes.reserve(alloc, bed.timers.len())?;
-    bed.timers.expire(15, &mut notes);
-    same!(&rt; notes.wakes.as_slices().0, [TaskNo(1)].as_slice());
+    bed.notes
+        .reserve(alloc, bed.timers.len())
+        .expect(&rt, "no memory");
+    bed.timers.expire(15, &mut bed.notes);
+    same!(&rt; bed.notes.wakes.as_slices().0, [TaskNo(1)].as_slice());
     let last = bed.poll(&rt, alloc, &mut sleep, home(15));
     same!(&rt; last, Ok(true));
     holds!(&rt; matches!(sleep.state(), SleepState::Done));
+    bed.release(&rt, sleep, 3);
     Ok(())
 }
 
@@ -147,9 +177,7 @@ fn a_sleep_is_over_once_its_sleeper_fired(rt: HostRuntime) -> Result<(), Fail> {
 fn a_sleep_that_is_polled_elsewhere_hears_of_its_end(rt: HostRuntime) -> Result<(), Fail> {
     let alloc = rt.alloc();
     let mut bed = Bed::new(alloc)?;
-    let mut sleep = Sleep::new(10, 5);
-    let first = bed.poll(&rt, alloc, &mut sleep, home(5));
-    same!(&rt; first, Ok(false));
+    let mut sleep = bed.begun(&rt, alloc);
     let asks = bed.poll(&rt, alloc, &mut sleep, away(5));
     same!(&rt; asks, Ok(false));
     holds!(&rt; matches!(sleep.state(), SleepState::Forwarded(3, FIRST)));
@@ -164,6 +192,27 @@ fn a_sleep_that_is_polled_elsewhere_hears_of_its_end(rt: HostRuntime) -> Result<
     same!(&rt; bed.post.messages.len(), 0);
     let again = bed.poll(&rt, alloc, &mut sleep, home(5));
     same!(&rt; again, Ok(true));
+    bed.release(&rt, sleep, 4);
+    same!(&rt; (bed.timers.len(), bed.post.messages.len()), (1, 0));
+    Ok(())
+}
+
+#[test]
+fn a_sleep_that_is_let_go_has_its_sleeper_removed(rt: HostRuntime) -> Result<(), Fail> {
+    let alloc = rt.alloc();
+    let mut bed = Bed::new(alloc)?;
+    let here = bed.begun(&rt, alloc);
+    bed.release(&rt, here, 3);
+    same!(&rt; (bed.timers.len(), bed.post.messages.len()), (0, 0));
+    let waiting = Sleep::new(10, 5);
+    bed.release(&rt, waiting, 4);
+    same!(&rt; bed.post.messages.len(), 0);
+    let mut elsewhere = Sleep::new(10, 5);
+    let first = bed.poll(&rt, alloc, &mut elsewhere, home(5));
+    same!(&rt; first, Ok(false));
+    bed.release(&rt, elsewhere, 4);
+    same!(&rt; bed.timers.len(), 1);
+    holds!(&rt; matches!(bed.post.messages.as_slice(), [TimerMessage::Cancel(_)]));
     Ok(())
 }
 
@@ -175,13 +224,13 @@ fn what_closes_ends_a_sleep(rt: HostRuntime) -> Result<(), Fail> {
     let refused = bed.poll(&rt, alloc, &mut new, closes(home(5)));
     same!(&rt; refused, Err(Error::Closed));
     same!(&rt; bed.timers.len(), 0);
-    let mut sleep = Sleep::until(15, 5);
-    let first = bed.poll(&rt, alloc, &mut sleep, home(5));
-    same!(&rt; first, Ok(false));
+    bed.release(&rt, new, 3);
+    let mut sleep = bed.begun(&rt, alloc);
     bed.post.closed = true;
     let shut = bed.poll(&rt, alloc, &mut sleep, away(5));
     same!(&rt; shut, Err(Error::Closed));
     same!(&rt; bed.post.messages.len(), 0);
     holds!(&rt; matches!(sleep.state(), SleepState::Done));
+    bed.release(&rt, sleep, 3);
     Ok(())
 }

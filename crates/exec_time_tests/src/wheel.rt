@@ -11,8 +11,13 @@ const MS: u64 = 1_000_000;
 
 #[test]
 fn layouts(rt: HostRuntime) -> Result<(), Fail> {
-    for (horizon, slots) in [(1, 4), (15 * MS, 8), (60_000 * MS, 16_384)] {
-        same!(&rt; TimeoutWheel::validate_layout(horizon, 5 * MS), Ok(slots));
+    for (horizon, tick, slots) in [
+        (1, 5 * MS, 4),
+        (15 * MS, 5 * MS, 8),
+        (60_000 * MS, 5 * MS, 16_384),
+        (1_048_574, 1, 1_048_576),
+    ] {
+        same!(&rt; TimeoutWheel::validate_layout(horizon, tick), Ok(slots));
     }
     let refused = TimeoutWheel::validate_layout(1_048_575, 1);
     same!(&rt; refused, Err(Layout));

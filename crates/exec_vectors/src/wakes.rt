@@ -1,7 +1,8 @@
 //! Calls on a wake word. Each answer ends with the word as the original packs it: how the worker
 //! waits, the latch, and the number of batches.
 
-ghost use Rattle.std.specs.Prelude.{◌<◌, ◌^◌, IfOk};
+ghost use Rattle.std.specs.Prelude.{◌≢◌, ◌<◌, ◌^◌, IfOk};
+ghost use Rattle.exec_words.specs.declared.word.WaitTarget.{WaitTarget as WaitMode};
 
 use crate::fault::Fault;
 use crate::words::short;
@@ -26,12 +27,14 @@ pub fn begin(words: &mut Words<'_>) -> Result<PureWord, Fault> {
     Ok(PureWord::at(batch(words)?))
 }
 
-/// Arms a wait, and tells whether it may begin.
+/// Arms a wait, and tells whether it may begin. The target must be a wait.
 fn arm(
     word: &mut PureWord,
     target: WaitTarget,
     words: &mut Words<'_>,
-) -> Result<&'static str, Fault> {
+) -> Result<&'static str, Fault>
+    requires { target ≢ WaitMode.None }
+{
     let processed = batch(words)?;
     if word.target != WaitTarget::None {
         return Err(Fault::Condition);

@@ -1,8 +1,8 @@
 -- Requests of the worked examples. A sender is a number.
-use Rattle.std.specs.Prelude.{ℕ, [], Some, true}
+use Rattle.std.specs.Prelude.{ℕ, [], Some, None, Ok, true}
 use Rattle.exec_base.specs.{Slab.{Slab, inserted}, declared.{slab.Id.Id, task_no.TaskNo.TaskNo}}
 use Rattle.exec_request.specs.declared.request.Request.{Request, TheVariants.{Sync, Poll}}
-use Rattle.exec_waiters.specs.{declared.{observer.Observer.{Observer, TheVariants.{Local, Forwarded, DetachedSync, Orphaned}}, waiter.{Waiter.Waiter, Entry.{Entry, TheVariants.Pending}}}, Events.newcomer}
+use Rattle.exec_waiters.specs.{declared.{observer.Observer.{Observer, TheVariants.{Local, Forwarded, DetachedSync, Orphaned}}, waiter.{Waiter.Waiter, Entry.{Entry, TheVariants.Pending}}}, Events.{finished, newcomer}}
 
 abbrev pub task : ℕ → TaskNo
 task n = record { 0 = n }
@@ -39,3 +39,7 @@ flying observer = record (awaited observer) { in_flight = true }
 -- one request alone, as the first of its worker
 abbrev pub alone : Waiter ℕ ℕ → Slab (Entry ℕ ℕ)
 alone w = inserted (record { slots = []; vacant = []; first = 0; room = 0 }) (Pending w)
+
+-- it is over, and its output is kept for the task
+abbrev pub done : Slab (Entry ℕ ℕ)
+done = finished (alone (awaited here)) (named 0 0) (awaited here) (Ok tt) None

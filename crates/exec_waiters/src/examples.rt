@@ -7,7 +7,7 @@ ghost use Rattle.exec_request.specs.declared.output.RequestOutput.TheVariants as
 ghost use Rattle.exec_request.specs.declared.output.RetiredResources.TheVariants as retired;
 ghost use Rattle.exec_request.specs.declared.results.WaiterState.TheVariants as stands;
 ghost use Rattle.exec_time.specs.declared.timers.Observation.TheVariants as observation;
-ghost use Rattle.exec_waiters.specs.{Ids.{user_data_of, index_in, generation_in}, Told.nothing_told, States.{suits, is_held_by, may_stage, named as named_by}, Events.{newcomer, with_permit, with_state, may_cancel, seen_in, told_by_forward, told_by_orphan, told_by_close, told_by_finish, asks_cancel_by_orphan, finished, forwarded}, Examples.{task, named, poll, sync, here, elsewhere, detached, nobody, awaited, flying, alone}, declared.waiter.Entry.TheVariants.{Pending, Ready}};
+ghost use Rattle.exec_waiters.specs.{Ids.{user_data_of, index_in, generation_in}, Told.nothing_told, States.{suits, is_held_by, may_stage, named as named_by}, Events.{newcomer, with_permit, with_state, may_cancel, seen_by, seen_in, told_by_forward, told_by_orphan, told_by_close, told_by_finish, asks_cancel_by_orphan, finished, forwarded, orphaned, taken}, Examples.{task, named, poll, sync, here, elsewhere, detached, nobody, awaited, flying, alone, done}, declared.waiter.Entry.TheVariants.{Pending, Ready}};
 
 /// The user data of an id has its index and the low half of its generation.
 pub fn user_data_of_an_id()
@@ -71,6 +71,22 @@ pub fn ends()
     ensures gone { value_at (finished (alone (awaited nobody)) (named 0 0) (awaited nobody) (Err error.Timeout) None) (named 0 0) ≡ None }
     ensures next { next_id (finished (alone (awaited nobody)) (named 0 0) (awaited nobody) (Err error.Timeout) None) ≡ Some (named 0 1) }
     ensures let_go { (told_by_finish (named 0 0) (awaited nobody) (Err error.Timeout) None).outputs ≡ record { id = record { 0 = named 0 0 }; output = output.Poll (Err error.Timeout) } ∷ [] }
+    ensures answered { (told_by_finish (named 0 0) (awaited elsewhere) (Ok tt) None).results ≡ record { id = record { 0 = named 0 0 }; sender = 6; result = Ok (output.Poll (Ok tt)) } ∷ [] }
+    ensures not_lost { (told_by_finish (named 0 0) (awaited elsewhere) (Ok tt) None).results ≢ [] }
+    ensures not_kept { value_at (finished (alone (awaited elsewhere)) (named 0 0) (awaited elsewhere) (Ok tt) None) (named 0 0) ≡ None }
     ensures sent { (told_by_finish (named 0 0) (newcomer sync detached) (Ok tt) None).completions ≡ record { sender = 5; result = Ok tt } ∷ [] }
     ensures nothing_else { (told_by_finish (named 0 0) (newcomer sync detached) (Ok tt) None).outputs ≡ [] }
+{}
+
+/// An output that is kept for a task: it is taken by the one that looks, sent to who waits elsewhere from now on, and let
+/// go where nobody waits any more or the worker closes, which wakes no task for it. Its slot is free then.
+pub fn kept_outputs()
+    ensures seen { seen_by (task 4) (value_at done (named 0 0)) ≡ observation.Ready (output.Poll (Ok tt)) }
+    ensures sent { (told_by_forward (named 0 0) 9 (value_at done (named 0 0))).results ≡ record { id = record { 0 = named 0 0 }; sender = 9; result = Ok (output.Poll (Ok tt)) } ∷ [] }
+    ensures not_closed { (told_by_forward (named 0 0) 9 (value_at done (named 0 0))).results ≢ record { id = record { 0 = named 0 0 }; sender = 9; result = Err error.Closed } ∷ [] }
+    ensures let_go { (told_by_orphan (named 0 0) (value_at done (named 0 0))).outputs ≡ record { id = record { 0 = named 0 0 }; output = output.Poll (Ok tt) } ∷ [] }
+    ensures closed { told_by_close (named 0 0) (value_at done (named 0 0)) ≡ told_by_orphan (named 0 0) (value_at done (named 0 0)) }
+    ensures taken { value_at (taken done (named 0 0)) (named 0 0) ≡ None }
+    ensures forwarded { value_at (forwarded done (named 0 0) 9) (named 0 0) ≡ None }
+    ensures orphaned { value_at (orphaned done (named 0 0)) (named 0 0) ≡ None }
 {}

@@ -20,6 +20,8 @@ pub mod queue;
 pub mod reserved;
 pub mod word;
 
+use exec_base::limits::MOST_WORKERS;
+
 /// How many values a run queue holds.
 pub const CAPACITY: usize = 256;
 /// How many values an overflow keeps, and the most that a steal takes: half the capacity.
@@ -27,7 +29,7 @@ pub const HALF: usize = 128;
 /// The fewest values of an unclaimed queue of which a steal takes any: half, rounded down.
 pub const STEALABLE: usize = 2;
 /// The most workers that a pool has.
-pub const MAX_WORKERS: usize = 64;
+pub const MAX_WORKERS: usize = MOST_WORKERS;
 /// The greatest number of a batch: they are counted modulo 2^29.
 pub const SUBMISSION_SEQ_MASK: u32 = BATCHES - 1;
 /// How many numbers of batches there are.

@@ -11,7 +11,7 @@
 //! Each call that changes the word is one operation on it, and answers what it found where that
 //! decides. Ports the state of `commonware_runtime`'s `iouring::waker`.
 
-ghost use Rattle.std.specs.Prelude.{◌≡◌, ◌<◌, ◌^◌, ◌&&◌, ◌==◌, not, true, false};
+ghost use Rattle.std.specs.Prelude.{◌≡◌, ◌≢◌, ◌<◌, ◌^◌, ◌&&◌, ◌==◌, not, true, false};
 ghost use Rattle.exec_words.specs.{declared.word.WaitTarget.WaitTarget, Word.asks_signal, Word.is_idle_at, Word.next_batch};
 
 use super::BATCHES;
@@ -51,9 +51,11 @@ impl PureWord {
         }
     }
 
-    /// Arms a wait: the or of its bit into the word. Answers the word that it found. The caller must not wait already.
+    /// Arms a wait: the or of its bit into the word. Answers the word that it found. The caller must not wait already,
+    /// and must name a wait: `WaitTarget::None` has no bit, so that nobody would signal the worker.
     pub fn arm(&mut self, target: WaitTarget) -> PureWord
-        requires { self.old.target ≡ WaitTarget.None }
+        requires unarmed { self.old.target ≡ WaitTarget.None }
+        requires wait { target ≢ WaitTarget.None }
         ensures found { result ≡ self.old }
         ensures armed { self.new ≡ record self.old { target = target } }
     {

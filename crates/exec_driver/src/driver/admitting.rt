@@ -83,9 +83,11 @@ impl<R: Ring + Drop, S: Drop, F: Drop> Driver<R, S, F> {
         }
     }
 
-    /// A durable request that was admitted joins the line of its open. The caller must join it once: `admit` made one
-    /// place for it, as `may_join` says. The caller must also have an open of that number, since nothing changes where
-    /// there is none, and the request waits for good. Nothing changes for any other request.
+    /// A durable request that was admitted joins the line of its open. Nothing changes for any other request. The
+    /// caller must have one that stands nowhere in the line yet, in the place that `admit` made for it: `may_join` says
+    /// only that some place is free there, and one that joins twice comes to hold the gate after its end, for good. It
+    /// must also have an open of that number, since nothing changes where there is none, and name by `worker` the number
+    /// under which the worker will `grant` or `service`. Else nobody grants the permit, and the request waits for good.
     pub fn join(&self, worker: u32, id: WaiterId, opens: &mut Opens)
         requires made { IfSome (open_named opens.old (gate_in (request_at (seen self.now) id))) (λ o. 0 < o.coming) }
         ensures { opens.new ≡ with_named opens.old (gate_in (request_at (seen self.now) id)) (joined (record { worker = worker; id = id })) }
@@ -227,7 +229,7 @@ impl<R: Ring + Drop, S: Drop, F: Drop> Driver<R, S, F> {
     {
         let count = self.waiters.len().checked_add(1).ok_or(AllocError)?;
         let live = self.waiters.live().checked_add(1).ok_or(AllocError)?;
-        self.lists.reserve(live)?;
+        self.lists.make_room(alloc, live)?;
         let later = live.checked_mul(2).ok_or(AllocError)?;
         deferred.reserve(alloc, later.checked_add(1).ok_or(AllocError)?)?;
         Ok(count)

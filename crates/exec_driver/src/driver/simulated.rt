@@ -40,7 +40,8 @@ impl<S: Drop, F: Drop> Driver<SimRing, S, F> {
         self.waiters.land(id, given, &mut self.ring, store)
     }
 
-    /// Nothing ends within an enter of this ring: its kernel ends an operation when it is told to.
+    /// Does nothing; for proofs: nothing ends within an enter of this ring, whose kernel ends an operation when it is
+    /// told to.
     pub fn lands_nothing(&self)
         ensures { (seen self.now).landings ≡ [] }
     {

@@ -44,7 +44,7 @@ impl<R: Ring + Drop, S: Drop, F: Drop> Driver<R, S, F> {
     /// Grants the permit of an open to a request of this worker that holds its gate and wasn't granted it. It ends at
     /// once with the failure that the open keeps, or well where it is a sync that has nothing to make durable; else it
     /// is queued. None where another holds the gate, or was granted the permit before. The caller must lend the opens,
-    /// and have made room in what is to be told.
+    /// have made room in what is to be told, and name the worker by the number under which its requests joined (`join`).
     pub fn grant(
         &mut self,
         worker: u32,
@@ -72,7 +72,7 @@ impl<R: Ring + Drop, S: Drop, F: Drop> Driver<R, S, F> {
         Some(Granted { id, ended })
     }
 
-    /// A durable request whose operation is under way was granted its permit.
+    /// Does nothing; for proofs: a durable request whose operation is under way was granted its permit.
     #[tactic(auto, using(crate::proofs::Granting::flies_permitted))]
     pub fn flies_permitted(&self)
         ensures { FliesPermitted (seen self.now) }
@@ -80,7 +80,7 @@ impl<R: Ring + Drop, S: Drop, F: Drop> Driver<R, S, F> {
         let _lists = &self.lists;
     }
 
-    /// Each list has requests of its place, which aren't over.
+    /// Does nothing; for proofs: each list has requests of its place, which aren't over.
     #[tactic(auto, using(crate::proofs::Granting::lists_requests))]
     pub fn lists_requests(&self)
         ensures { ListsRequests (seen self.now) }
@@ -88,7 +88,7 @@ impl<R: Ring + Drop, S: Drop, F: Drop> Driver<R, S, F> {
         let _lists = &self.lists;
     }
 
-    /// A request whose deadline stands in the wheel has one.
+    /// Does nothing; for proofs: a request whose deadline stands in the wheel has one.
     #[tactic(auto, using(crate::proofs::Granting::has_deadlines))]
     pub fn has_deadlines(&self)
         ensures { HasDeadlines (seen self.now) }

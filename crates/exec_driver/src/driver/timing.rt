@@ -81,7 +81,8 @@ impl<R: Ring + Drop, S: Drop, F: Drop> Driver<R, S, F> {
         }
     }
 
-    /// Once all that is due was told the wheel may go on, and the first tick ahead is that of a request's deadline.
+    /// Does nothing; for proofs: once all that is due was told the wheel may go on, and the first tick ahead is that of a
+    /// request's deadline.
     #[tactic(auto, using(crate::proofs::Firsts::tells_deadlines, crate::proofs::Punctual::reach_of))]
     pub fn tells_deadlines(&self)
         ensures { TellsDeadlines (seen self.now) }
@@ -102,7 +103,7 @@ fn tick_for(wheel: &TimeoutWheel, deadline: u64, now: u64) -> Result<Tick, Error
     }
 }
 
-/// A tick ahead, unless its moment is beyond what 64 bits can say.
+/// This tick, unless its moment is beyond what 64 bits can say. The caller must have one ahead, within the wheel.
 fn in_time(wheel: &TimeoutWheel, tick: Tick) -> Result<Tick, Error>
     requires ahead { (wheel_of wheel.now).current < tick }
     requires span { tick < (wheel_of wheel.now).current + (wheel_of wheel.now).slots }

@@ -5,16 +5,16 @@
 //! completed by then is reaped. A worker's own loop makes the same steps one by one.
 //!
 //! Afterwards no completion is there, and no deadline is due or to be enrolled. No cancel waits either, unless the
-//! kernel was busy: a request that goes on is the only one that may wait to be staged. Each step ends a request or
-//! none and tells of one end at most, so the room that was there for the ends of all requests is there for those that
-//! are left.
+//! kernel was busy. What may still wait to be staged is a request that goes on, one beyond as many as the ring has
+//! entries, and what a busy kernel left. Each step ends a request or none and tells of one end at most, so the room that
+//! was there for the ends of all requests is there for those that are left.
 
 ghost use Rattle.std.specs.Prelude.{◌≡◌, ℕ, ◌<◌, ◌≤◌, ◌&&◌, ◌||◌, ◌==◌, not, [], true, false, IsTrue};
 ghost use Rattle.exec_ring.specs.Kernels.{is_quiet};
 ghost use Rattle.exec_time.specs.Wheel.{IsWithinReach};
 ghost use Rattle.exec_waiters.specs.States.{pending_count};
 ghost use Rattle.exec_opens.specs.Opens.{next_at, with_open, passed};
-ghost use Rattle.exec_driver.specs.{Driving.{seen, is_full, may_stage_one}, Punctual.IsPunctual, Placed.Says, Sound.IsSound, Service.{Repeats, ReapsOne, ExpiresOne, EnrolsOne, GrantsAt, GrantsAll, StagesOneEntry, StagesAll, ServesInOrder, is_unstaged, Parks, reached, entered_if}, Steps.with_landings, Turns.{CanTell, GoesOn, Serves, StaysDone, IsStaged, unstaged, unreaped, may_wait, made_way, must_enter, is_after, is_calm, is_taken, PassesTo}};
+ghost use Rattle.exec_driver.specs.{Driving.{seen, is_full, may_stage_one}, Punctual.IsPunctual, Placed.Says, Sound.IsSound, Service.{Repeats, ReapsOne, ExpiresOne, EnrolsOne, GrantsAt, GrantsAll, StagesOneEntry, StagesAll, ServesInOrder, is_unstaged, Parks, reached, entered_if}, Steps.with_landings, Turns.{CanTell, GoesOn, Serves, StaysDone, IsStaged, unstaged, unreaped, may_wait, made_way, must_enter, finds_busy, is_after, is_calm, is_taken, PassesTo}};
 ghost use Rattle.exec_lists.specs.Lists.{has_first};
 
 use super::Driver;
@@ -31,8 +31,13 @@ impl<R: Ring + Drop, S: Drop, F: Drop> Driver<R, S, F> {
     /// goes on until nothing is left of it, but for what the kernel has completed or a permit allows only later.
     ///
     /// Answers whether it left its last enter out: where `defer` is set, requests stand, and neither is anything to
-    /// be told nor a submission pending. The caller must have told what was due, have made room in what is to be told,
-    /// and have a ring that takes an entry at all. Ports `service`.
+    /// be told nor a submission pending.
+    ///
+    /// The caller must have told what was due, have a ring that takes an entry at all, and have a punctual driver: each
+    /// deadline in its wheel is due or ahead there, as a new one has it and each call keeps it. `worker` must be the
+    /// number under which its requests joined the lines of their opens. What is to be told must have room for the end
+    /// of each request and for one more: `admit` makes it, and before the first request the caller must, by
+    /// `Deferred::reserve`. Ports `service`.
     pub fn service<W: Signals>(
         &mut self,
         worker: u32,
@@ -92,13 +97,14 @@ impl<R: Ring + Drop, S: Drop, F: Drop> Driver<R, S, F> {
     }
 
     /// Makes ready to wait on the ring, having taken `processed` batches of messages, and enters it. Where it answers
-    /// true the word stays armed: the worker sleeps while `may_sleep` says so, and must disarm the word before it goes
-    /// on. False just where it may not wait: a submission is pending, the wake poll has no room, or the word had a signal
-    /// or another batch; then the word isn't armed. In the last case its signal is taken out, so the caller must serve
-    /// next; the batches are still to be taken. The caller must not wait already. Ports `park`.
+    /// true the kernel has all that was staged and the word stays armed: the worker sleeps while `may_sleep` says so, and
+    /// must disarm the word before it goes on. False just where it may not wait: a submission is pending, the wake poll
+    /// has no room, the word had a signal or another batch, or the kernel was busy; then the word isn't armed. A signal
+    /// that stood there is taken out where nothing was pending and the poll had room, so the caller must serve next; the
+    /// batches are still to be taken. The caller must not wait already. Ports `park`.
     pub fn park<A: Armed>(&mut self, processed: u32, word: &mut A) -> bool
         requires unarmed { A.is_armed word.old ≡ false }
-        ensures answer { result ≡ (may_wait (seen self.old) && is_calm (A.is_signalled word.old) (A.is_caught_up word.old processed)) }
+        ensures answer { result ≡ (may_wait (seen self.old) && (is_calm (A.is_signalled word.old) (A.is_caught_up word.old processed) && not (finds_busy (seen self.old)))) }
         ensures parks { Parks (is_calm (A.is_signalled word.old) (A.is_caught_up word.old processed)) (seen self.old) (seen self.new) }
         ensures waits { A.is_armed word.new ≡ result }
         ensures calm { IsTrue result → is_calm (A.is_signalled word.new) (A.is_caught_up word.new processed) ≡ true }
@@ -106,7 +112,7 @@ impl<R: Ring + Drop, S: Drop, F: Drop> Driver<R, S, F> {
         ensures signal { A.is_signalled word.new ≡ (A.is_signalled word.old && not (may_wait (seen self.old))) }
         ensures batches { (taken : ℕ) → A.is_caught_up word.new taken ≡ A.is_caught_up word.old taken }
         ensures armed { IsTrue result → (seen self.new).armed ≡ true }
-        ensures entered { IsTrue result → (seen self.old).ring.busy ≡ false → (seen self.new).ring.staged ≡ [] }
+        ensures entered { IsTrue result → (seen self.new).ring.staged ≡ [] }
         ensures same { seen self.new ≡ record (seen self.old) { ring = (seen self.new).ring; landings = (seen self.new).landings; armed = (seen self.new).armed } }
         ensures punctual { IsPunctual (seen self.old) → IsPunctual (seen self.new) }
     {
@@ -121,36 +127,36 @@ impl<R: Ring + Drop, S: Drop, F: Drop> Driver<R, S, F> {
         }
         self.sound();
         let calm = word.arm(processed);
-        self.enter_armed(calm, word);
+        let waits = self.enter_armed(calm, word);
         self.sound();
-        disarm_unless(calm, word);
-        calm
+        disarm_unless(waits, word);
+        waits
     }
 
-    // Lets the kernel work, where the word stood calm. The worker waits from before then on: who sends it something
-    // meanwhile must raise a wake in its ring.
-    fn enter_armed<A: Armed>(&mut self, calm: bool, word: &A)
+    // Lets the kernel work, where the word stood calm, and answers whether it did. The worker waits from before then on:
+    // who sends it something meanwhile must raise a wake in its ring.
+    fn enter_armed<A: Armed>(&mut self, calm: bool, word: &A) -> bool
         requires armed { A.is_armed word.now ≡ true }
+        ensures answer { result ≡ (calm && not (seen self.old).ring.busy) }
         ensures going { GoesOn (seen self.old) (seen self.new) }
         ensures entered { IsTrue calm → (seen self.old).ring.busy ≡ false → (seen self.new).ring.staged ≡ [] }
         ensures works { seen self.new ≡ with_landings (seen self.new) (entered_if calm (seen self.old)) }
         ensures same { seen self.new ≡ record (seen self.old) { ring = (seen self.new).ring; landings = (seen self.new).landings } }
     {
         let _armed = word;
-        self.enter_if(calm);
+        self.enter_if(calm)
     }
 
-    // Lets the kernel work, where this is set.
-    fn enter_if(&mut self, enters: bool)
+    // Lets the kernel work, where this is set. Answers whether it did: not where it was busy.
+    fn enter_if(&mut self, enters: bool) -> bool
+        ensures answer { result ≡ (enters && not (seen self.old).ring.busy) }
         ensures going { GoesOn (seen self.old) (seen self.new) }
         ensures entered { IsTrue enters → (seen self.old).ring.busy ≡ false → (seen self.new).ring.staged ≡ [] }
         ensures works { seen self.new ≡ with_landings (seen self.new) (entered_if enters (seen self.old)) }
         ensures same { seen self.new ≡ record (seen self.old) { ring = (seen self.new).ring; landings = (seen self.new).landings } }
         ensures done { StaysDone (seen self.old) (seen self.new) }
     {
-        if enters {
-            self.enter();
-        }
+        enters && matches!(self.enter(), Entered::Taken(_))
     }
 
     // Enters a full queue.
@@ -364,15 +370,15 @@ impl<R: Ring + Drop, S: Drop, F: Drop> Driver<R, S, F> {
     }
 }
 
-/// The worker waits no more, unless its word stood calm.
-fn disarm_unless<A: Armed>(calm: bool, word: &mut A)
+/// The worker waits no more, unless it still is to.
+fn disarm_unless<A: Armed>(waits: bool, word: &mut A)
     requires armed { A.is_armed word.old ≡ true }
-    ensures waits { A.is_armed word.new ≡ calm }
-    ensures same { IsTrue calm → word.new ≡ word.old }
-    ensures signal { A.is_signalled word.new ≡ (A.is_signalled word.old && calm) }
+    ensures waits { A.is_armed word.new ≡ waits }
+    ensures same { IsTrue waits → word.new ≡ word.old }
+    ensures signal { A.is_signalled word.new ≡ (A.is_signalled word.old && waits) }
     ensures batches { (taken : ℕ) → A.is_caught_up word.new taken ≡ A.is_caught_up word.old taken }
 {
-    if !calm {
+    if !waits {
         word.disarm();
     }
 }

@@ -48,7 +48,7 @@ impl Names {
     }
 
     /// Makes room for one more request. Where there is no memory all stays as it is.
-    pub fn reserve_request(&mut self) -> Result<(), AllocError>
+    pub fn reserve_request(&mut self, _alloc: Global) -> Result<(), AllocError>
         ensures kept { SameNames self.old self.new }
         ensures room { OnOk result (HasRequestRoom self.new) }
     {
@@ -59,7 +59,7 @@ impl Names {
     }
 
     /// Makes room for one more sleeper. Where there is no memory all stays as it is.
-    pub fn reserve_timer(&mut self) -> Result<(), AllocError>
+    pub fn reserve_timer(&mut self, _alloc: Global) -> Result<(), AllocError>
         ensures kept { SameNames self.old self.new }
         ensures room { OnOk result (HasTimerRoom self.new) }
     {

@@ -167,7 +167,7 @@ impl<B: Drop> TaskSlot<B> {
     }
 
     /// Makes room for one more request that it holds. Where there is no memory all stays as it is.
-    pub fn reserve(&mut self) -> Result<(), AllocError>
+    pub fn reserve(&mut self, _alloc: Global) -> Result<(), AllocError>
         ensures items { self.new.held.items ≡ self.old.held.items }
         ensures same { self.new ≡ record self.old { held = self.new.held } }
         ensures room { OnOk result (length self.new.held.items < vec_capacity self.new.held) }

@@ -34,7 +34,7 @@ returns-then-not-is_empty-3 g c =
       steps = released_as g.B.Body.left g.B.Scripted.spot c.args.next first.0 c.args.worker.now c.release_next.new.worker c.args.shared.now c.release_next.new.shared c.release_next.result c.requires.sound (is.event first.0 first.1) is.place
           (none_by left.notes.wakes.items c.is_empty.result (c.is_empty.ensures ∙ ap (λ n. n == 0) left.notes.wakes.ok.0) (ap not c.if-not-is_empty.false))
           (ap length (none_by left.outputs.items c.is_empty-2.result (c.is_empty-2.ensures ∙ ap (λ n. n == 0) left.outputs.ok.0) (ap not c.if-not-is_empty-2.false)))
-          (record { rest = drop 1 c.args.worker.now.names.ended.items; first = first.2; ended = is.ended; capacity = is.capacity; unreleased = is.unreleased; wide = is.wide; told = is.told; worker = is.worker; requests = is.requests first.0 first.1; kept = is.kept });
+          (record { rest = drop 1 c.args.worker.now.names.ended.items; first = first.2; ended = is.ended; capacity = is.capacity; unreleased = is.unreleased; wide = is.wide; told = is.told; worker = is.worker; requests = is.requests first.0 first.1; kept = is.kept; back = λ r at. is.room first.0 r first.1 at });
     }
 
 pub returns-then-not-is_empty : goal.returns-then-not-is_empty

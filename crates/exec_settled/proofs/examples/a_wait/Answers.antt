@@ -1,6 +1,6 @@
 use Rattle.std.proofs.Common.{ℕ, ◌<◌, Bool, true, false, Some, refl, ap, subst, arith, inl, inr}
-use Rattle.std.proofs.lemmas.Bool.{true≢false, false≢true}
-use Rattle.exec_machine.specs.{declared.state.Waiting.{Waiting}, Same.is_number, Tests.is_settled, World.{Common}}
+use Rattle.std.proofs.lemmas.{Bool.{true≢false, false≢true}, Option.none-some}
+use Rattle.exec_machine.specs.{declared.state.Waiting.{Waiting}, Same.is_number, Tests.{is_empty, is_settled}, World.{Common}}
 use Rattle.exec_machine.specs.declared.state.Waiting.TheVariants as waiting
 use Rattle.exec_books.specs.Examples.{its_request}
 use Rattle.exec_settled.specs.{Examples.{waits_for}, Given.{IsSleptBy, IsWaitedFor, WaitsFor}}
@@ -36,7 +36,10 @@ returns c =
       kept = record { requests = waited; sleepers = none_slept };
       of_another = λ it. false≢true (ap (λ o. is_number 1 o) (it.requests 1 0 (record { going = refl; waits = refl })).waiter);
       unheld = λ it. false≢true (it.requests 1 0 (record { going = refl; waits = refl })).observed;
-      off_the_gate = λ it. elim (it.gated 0 refl) [ inl stands ↦ false≢true stands | inr joins ↦ true≢false (ap is_settled joins) ];
       unsaid = λ it. elim (it.sent 0 refl) [ inl there ↦ false≢true there | inr shut ↦ false≢true shut ];
       in_no_list = λ it. false≢true ((it.listed 0).queued refl);
+      off_the_gate = λ it. elim ((it.lined_up 0).waits refl (omega arith)) [ inl stands ↦ false≢true stands | inr joins ↦ true≢false (ap is_settled joins) ];
+      of_no_open = λ it. absurd (omega (arith, it.there 0 refl));
+      unled = λ it. false≢true (ap is_empty (it.led 0 refl));
+      unpermitted = λ it. none-some 0 ((it.lined_up 0).has refl refl refl (omega arith));
     }

@@ -1,11 +1,14 @@
-use Rattle.std.proofs.Common.{◌≡◌, ℕ, true, false, None, refl, sym, ◌∙◌, ap, inl, inr}
+use Rattle.std.proofs.Common.{◌≡◌, ℕ, true, false, [], ◌∷◌, None, refl, sym, ◌∙◌, ap, inl, inr}
 use Rattle.std.proofs.lemmas.{Bool.{true≢false, false≢true}, Option.none-some}
-use Rattle.exec_machine.specs.{declared.config.Configuration.Configuration, Deadlines.new_sleeper, Tests.{is_empty, is_open}, World.seat_of}
+use Rattle.std.specs.Prelude.{is_some}
+use Rattle.exec_machine.specs.{declared.config.Configuration.Configuration, Deadlines.new_sleeper, Tests.{is_empty, is_open}, World.{no_open, seat_of}}
+use Rattle.exec_machine.specs.declared.state.RequestPhase.TheVariants.{Resolved}
+use Rattle.exec_outcomes.specs.declared.outcome.Outcome.TheVariants.{Success}
 use Rattle.exec_machine.specs.declared.state.TaskPhase.TheVariants as phase
-use Rattle.exec_moves.specs.Seen.{polls_at}
+use Rattle.exec_moves.specs.{MailLogs.a_write, Seen.polls_at}
 use Rattle.exec_rest.specs.{Examples.{rested, two_waiting, with_a_latch, with_a_message, with_a_runnable}, Rested.{Someone, is_in_pool, place_at, sleeps}}
 use Rattle.exec_rest.proofs.TwoAsleep.{nobody, place}
-use Rattle.exec_settled.specs.{Examples.{its_root, waits_here, with_permit, with_queue, with_root, with_sleeper}, Parked.{IsBeingWoken, IsParked, NobodySleepsOnWork}}
+use Rattle.exec_settled.specs.{Examples.{its_root, sleeps_here, waits_here, with_permit, with_queue, with_root, with_sleeper, with_write}, Parked.{IsBeingWoken, IsHeldUp, IsParked, NobodySleepsOnWork}}
 use Rattle.exec_settled.proofs.TwoAsleep.{calls, each, undisturbed}
 use Rattle.exec_settled.proofs.examples.a_wake_left.Goals as goal
 
@@ -30,6 +33,22 @@ ungranted it =
     let parked : IsParked two with_permit 1 = record { asleep = refl; left = undisturbed with_permit.world with_permit.things 1 } in
     true≢false ((it.parked 1 refl parked).requests 0 refl)
 
+unled : NobodySleepsOnWork two (with_write (a_write 1) (record no_open { waiting = 0 ∷ [] })) → ⊥
+unled it =
+    let x = with_write (a_write 1) (record no_open { waiting = 0 ∷ [] }) in
+    by (it.held_up 0 refl (record { asleep = refl; left = undisturbed x.world x.things 1 }))
+  where
+    by : IsHeldUp two (with_write (a_write 1) (record no_open { waiting = 0 ∷ [] })) 0 → ⊥
+    by (IsHeldUp.WithKernel flying) = false≢true flying
+    by (IsHeldUp.WaitsForPlace is full) = false≢true is
+    by (IsHeldUp.WaitsForPermit h gated is apart going) = false≢true (ap is_some is)
+
+unreleased : NobodySleepsOnWork two (with_write (record (a_write 1) { phase = Resolved Success }) no_open) → ⊥
+unreleased it =
+    let x = with_write (record (a_write 1) { phase = Resolved Success }) no_open in
+    let parked : IsParked two x 1 = record { asleep = refl; left = undisturbed x.world x.things 1 } in
+    true≢false ((it.parked 1 refl parked).requests 0 refl)
+
 unheard : NobodySleepsOnWork two waits_here → ⊥
 unheard it =
     let parked : IsParked two waits_here 1 = record { asleep = refl; left = undisturbed waits_here.world waits_here.things 1 } in
@@ -40,6 +59,17 @@ unheard it =
   where
     polls_none : (j : ℕ) → polls_at (place_at two waits_here j) ≡ None
     polls_none = each (λ j. polls_at (place_at two waits_here j) ≡ None) refl refl (λ j. refl)
+
+unwoken : NobodySleepsOnWork two sleeps_here → ⊥
+unwoken it =
+    let parked : IsParked two sleeps_here 1 = record { asleep = refl; left = undisturbed sleeps_here.world sleeps_here.things 1 } in
+    elim ((it.parked 1 refl parked).fired 1 0 (record { going = refl; waits = refl }) refl refl) [
+      | inl runs ↦ false≢true runs
+      | inr looks ↦ none-some 1 (sym (polls_none looks.0) ∙ ap polls_at looks.1)
+    ]
+  where
+    polls_none : (j : ℕ) → polls_at (place_at two sleeps_here j) ≡ None
+    polls_none = each (λ j. polls_at (place_at two sleeps_here j) ≡ None) refl refl (λ j. refl)
 
 unpolled : NobodySleepsOnWork two (with_root (record its_root { phase = phase.Queued })) → ⊥
 unpolled it =
@@ -90,11 +120,15 @@ returns c =
       left = left;
       signalled = λ b. IsBeingWoken.Signalled (Someone.Worker 0 refl);
       raised = λ b. IsBeingWoken.Raised false (Someone.Worker 0 refl);
+      passed = λ b v. IsBeingWoken.Passed 0 (refl, refl, refl, (0, refl));
       handed = λ b v. IsBeingWoken.Handed (0, refl);
       unread = unread;
       unrung = unrung;
       ungranted = ungranted;
+      unled = unled;
+      unreleased = unreleased;
       unheard = unheard;
+      unwoken = unwoken;
       unpolled = unpolled;
       unseen = unseen;
       unclosed = unclosed;

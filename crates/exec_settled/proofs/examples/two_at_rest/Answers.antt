@@ -3,11 +3,11 @@ use Rattle.std.proofs.lemmas.{Bool.{true≢false, false≢true}, Option.none-som
 use Rattle.std.specs.Prelude.{slice_get}
 use Rattle.exec_machine.specs.{declared.state.{Forwarding.Forwarding, Next.Next, Waiting.Waiting}, Progress.{has_to_close, is_cancel_untold, is_task_unfinished, sleeps_for_nothing}, Tests.{is_closing, is_done, is_open}, World.{Common, open_of, own_of, seat_of, task_of}}
 use Rattle.exec_machine.specs.declared.state.Waiting.TheVariants as waiting
-use Rattle.exec_moves.specs.{Plays.desk_of, Seen.{next_at, polls_at}, Slots.is_in_slots, State.gate_of}
+use Rattle.exec_moves.specs.{Call.no_call, Plays.desk_of, Seen.{next_at, polls_at}, Slots.is_in_slots, State.gate_of}
 use Rattle.exec_rest.specs.{Examples.{rested, two_waiting}, Places.{is_abed, is_to_sleep_on_ring}, Rested.{is_latched, place_at}}
-use Rattle.exec_rest.proofs.TwoAsleep.{at_rest, queue}
-use Rattle.exec_books.specs.Listed.{AreListed}
-use Rattle.exec_settled.specs.{Awaited.IsAwaited, Permits.IsPermitted, Given.{IsGiven, WaitsFor, ends_in_search, in_line, passes_at}, Parked.HasNothingToDo, Settled.{HasSubmitted, HasTold, ends_ring_wait}}
+use Rattle.exec_rest.proofs.{First.of_equal, TwoAsleep.{at_rest, queue}}
+use Rattle.exec_books.specs.{Booked.AreLinedUp, Listed.AreListed}
+use Rattle.exec_settled.specs.{Awaited.IsAwaited, Permits.IsPermitted, Given.{IsGiven, WaitsFor, ends_in_search, in_line, passes_at}, Parked.{HasNoneInHand, HasNothingToDo}, Settled.{HasSubmitted, HasTold, ends_ring_wait}}
 use Rattle.exec_rest.specs.AtRest.{stays_closing}
 use Rattle.exec_settled.proofs.{AwaitedTasks.is_for_thing, TwoAsleep.{each, is_at, not_at}}
 use Rattle.exec_settled.proofs.examples.two_at_rest.Goals as goal
@@ -81,6 +81,9 @@ listed k =
       over = λ h. absurd (false≢true h);
     }
 
+lined_up : AreLinedUp rested.world
+lined_up k = record { durable = λ h. absurd (false≢true h); waits = λ h there. absurd (false≢true h); has = λ h gated over there. absurd (false≢true h) }
+
 idle : (i : ℕ) → HasNothingToDo two_waiting.config rested i
 idle i =
     record {
@@ -129,7 +132,10 @@ returns c =
             closing = λ i closes. absurd (false≢true (sym (each (λ i. is_closing (seat_of s i).phase ≡ false) refl refl (λ i. refl) i) ∙ closes));
             held_up = λ k going. absurd (true≢false going);
             entered = λ i asleep. record { requests = λ k own. (refl, refl); cancels = each (λ i. is_cancel_untold s (own_of rested.world i) ≡ false) refl refl (λ i. refl) i };
+            hands = λ i off. each (HasNoneInHand two_waiting.config rested) (record { hand = refl; loot = refl; aside = refl }) (record { hand = refl; loot = refl; aside = refl }) (λ i. record { hand = refl; loot = refl; aside = refl }) i;
+            calls = λ j out. of_equal (λ d. d.hand ≡ None) 16 j no_call no_call refl refl;
+            bare = λ i other. queue i;
             pool = λ opened some. absurd (some refl);
           };
-      unforgotten = record { listed = listed; gated = λ k h. absurd (false≢true h); permitted = permitted; waits = given.waits; sent = λ k is. absurd (false≢true (ap is_sent is)); sent_too = λ z is. absurd (false≢true (ap is_sent is)); awaited = awaited };
+      unforgotten = record { listed = listed; lined_up = lined_up; there = λ k h. absurd (false≢true h); led = λ file none. refl; permitted = permitted; waits = given.waits; sent = λ k is. absurd (false≢true (ap is_sent is)); sent_too = λ z is. absurd (false≢true (ap is_sent is)); awaited = awaited };
     }

@@ -1,8 +1,8 @@
-use Rattle.std.proofs.Common.{◌≡◌, ◌≢◌, ℕ, zero, suc, ◌<◌, true, false, not, ◌&&◌, ◌||◌, [], None, refl, sym, ap, ◌∙◌, arith}
+use Rattle.std.proofs.Common.{◌≡◌, ◌≢◌, ℕ, zero, suc, ◌<◌, Bool, true, false, not, ◌&&◌, ◌||◌, [], None, refl, sym, ap, ◌∙◌, arith}
 use Rattle.std.proofs.lemmas.Bool.{true≢false, false≢true}
-use Rattle.exec_machine.specs.{Callers.is_held, Closing.own_after_stop, Mail.has_root_message, Tasks.{new_own, new_seat}, Tests.{has_ended, is_awake, is_done, is_open, is_settled}, World.{World, own_of, seat_of, task_of}}
+use Rattle.exec_machine.specs.{declared.state.Code.Code, Callers.is_held, Closing.own_after_stop, Mail.has_root_message, Same.is_none, Tasks.{new_own, new_seat}, Tests.{has_ended, is_awake, is_done, is_empty, is_open, is_settled}, World.{World, own_of, seat_of, task_of}}
 use Rattle.exec_machine.specs.declared.state.Next.TheVariants as next
-use Rattle.exec_shutdown.specs.{Examples.{stopped_with, two}, Stopping.{StopsAll, WaitsForStop, is_waiting, owes_root}}
+use Rattle.exec_shutdown.specs.{Examples.{stopped_with, two, waiting_root}, Stopping.{StopsAll, WaitsForStop, is_waiting, owes_root}}
 use Rattle.exec_shutdown.proofs.examples.a_stop_under_way.Goals as goal
 
 -- what is so of the two there are, and of all numbers past them
@@ -11,8 +11,12 @@ each P first second past zero = first
 each P first second past (suc zero) = second
 each P first second past (suc (suc i)) = past i
 
+abbrev is_waits : Code → Bool
+is_waits Code.Waits = true
+is_waits _ = false
+
 abbrev w : World
-w = stopped_with (own_after_stop two (new_own 0 0)) (new_seat true)
+w = stopped_with (own_after_stop two (new_own 0 0)) (new_own 0 1) (new_seat true) waiting_root
 
 owed : StopsAll two w
 owed =
@@ -44,6 +48,14 @@ returns c =
     record {
       owed = owed;
       untold = λ it. false≢true (it.told 1 refl (λ is. omega (arith, is)) refl refl);
+      pool = λ it. absurd (omega (arith, it.pool 1 refl));
       passed = λ it. true≢false (it.left 1 refl refl).1;
       waits = λ it. true≢false (ap is_settled (it.held 1 refl));
+      shuts = λ it. false≢true (it.shuts 1 refl refl);
+      shut = λ it. false≢true (it.shut 1 refl refl);
+      over = λ it. false≢true (it.over 1 refl refl);
+      sent = λ it. false≢true (ap is_empty (it.sent 1 refl));
+      idle = λ it. false≢true (ap is_none (it.idle 1 refl));
+      closed = λ it. false≢true (it.closed 1 refl (λ is. omega (arith, is)) refl);
+      roots = λ it. false≢true (ap is_waits (it.roots 1 refl (λ is. omega (arith, is))).code);
     }

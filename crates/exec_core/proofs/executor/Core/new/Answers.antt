@@ -1,6 +1,6 @@
 use Rattle.std.proofs.Common.{◌≡◌, ◌≤◌, replicate, false, refl, sym, ap, subst, ◌∙◌, arith}
 use Rattle.exec_core.specs.{Configs.configuration_of, Firsts.{AllBegin, IsFirst}}
-use Rattle.exec_core.proofs.{Beginning.free_caller, CoreFirsts.with_store, Pacing.first_turns, Powers.in_range, Steady.first_rests, Started.{first_ready, first_shown}}
+use Rattle.exec_core.proofs.{Beginning.free_caller, CoreFirsts.with_store, Pacing.first_turns, Powers.in_range, Steady.first_rests, Started.{first_ready, first_shown}, Taking.asked}
 use Rattle.exec_core.proofs.executor.Core.new.Goals as goal
 
 pub first_workers-requires-clause-few : goal.first_workers-requires-clause-few
@@ -25,6 +25,9 @@ returns-clause-ready g c = λ p plan.
     let sixteen : c.loop.counter ≡ 16 = omega (arith, c.loop.auto.counter-end, c.loop-test.false) in
     first_ready g.B.Body.left g.B.Scripted.runs g.B.Scripted.holds g.B.Scripted.spot k c.args.roots.items (record { workers = c.in_ok-workers.workers; shared = record c.in_ok-shared.shared { store = c.first_workers.new.store }; callers = c.loop.callers; spent = false }) c.in_ok-shared.runnables.items p
     (in_range k c.requires.config) first begin (c.loop.invariant.callers ∙ ap (λ n. replicate n free_caller) sixteen) plan refl
+
+pub returns-clause-asked : goal.returns-clause-asked
+returns-clause-asked g c = asked _ (returns-clause-ready g c c.requires.plan.0 c.requires.plan.1).stands
 
 pub returns-clause-rests : goal.returns-clause-rests
 returns-clause-rests g c = λ p plan.

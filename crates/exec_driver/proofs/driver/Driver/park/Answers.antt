@@ -1,7 +1,7 @@
 use Rattle.std.proofs.Common.{◌≡◌, true, false, sym, ◌∙◌, rules, arith}
 use Rattle.std.proofs.lemmas.Bool.{false≢true}
 use Rattle.exec_driver.specs.Driving.{seen}
-use Rattle.exec_driver.proofs.{Keeping.way_punctual, Turns.{wait_pending, wait_calm, way_free, way_may, poll_any}, Service.{waited, pending_refused, may_after, signal_left, signal_out, may_pending, may_poll}}
+use Rattle.exec_driver.proofs.{Keeping.way_punctual, Turns.{wait_pending, wait_calm, way_may}, Service.{waited, waits_by, waits_so, busy_found, pending_refused, may_after, signal_left, signal_out, may_pending, may_poll}}
 use Rattle.exec_driver.proofs.driver.Driver.park.Goals as goal
 
 pub returns-then-has_pending_submissions-clause-answer : goal.returns-then-has_pending_submissions-clause-answer
@@ -13,18 +13,19 @@ pub returns-clause-answer : goal.returns-clause-answer
 returns-clause-answer g c =
     let is : c.has_pending_submissions.result ≡ false = search rules in
     let poll : c.stage_wake_poll.result ≡ true = search rules in
-    wait_calm (seen c.args.self.now) (seen c.make_way.new.self) _ _ c.make_way.ensures (sym c.has_pending_submissions.ensures ∙ is) (sym c.stage_wake_poll.ensures.answer ∙ poll) c.arm-calm.ensures.calm
+    let found = busy_found (seen c.args.self.now) (seen c.make_way.new.self) (seen c.stage_wake_poll.new.self) c.make_way.ensures c.stage_wake_poll.ensures.staged in
+    wait_calm (seen c.args.self.now) (seen c.make_way.new.self) _ _ c.make_way.ensures (sym c.has_pending_submissions.ensures ∙ is) (sym c.stage_wake_poll.ensures.answer ∙ poll) (waits_by _ _ _ _ _ c.enter_armed-waits.ensures.answer c.arm-calm.ensures.calm found)
 
 pub returns-clause-entered : goal.returns-clause-entered
-returns-clause-entered g c = λ yes free.
-    let way = way_free (seen c.args.self.now) (seen c.make_way.new.self) c.make_way.ensures free in
-    c.enter_armed.ensures.entered yes ((poll_any (seen c.make_way.new.self) (seen c.stage_wake_poll.new.self) c.stage_wake_poll.ensures.staged).eases.keeps.free way)
+returns-clause-entered g c = λ yes.
+    let both = waits_so _ _ _ c.enter_armed-waits.ensures.answer yes in
+    c.enter_armed-waits.ensures.entered both.0 both.1
 
 pub returns-then-has_pending_submissions-clause-punctual : goal.returns-then-has_pending_submissions-clause-punctual
 returns-then-has_pending_submissions-clause-punctual g c = way_punctual _ _ c.make_way.ensures
 
 pub returns-clause-punctual : goal.returns-clause-punctual
-returns-clause-punctual g c = λ p. c.enter_armed.ensures.going.punctual (c.stage_wake_poll.ensures.punctual (way_punctual _ _ c.make_way.ensures p))
+returns-clause-punctual g c = λ p. c.enter_armed-waits.ensures.going.punctual (c.stage_wake_poll.ensures.punctual (way_punctual _ _ c.make_way.ensures p))
 
 pub returns-then-has_pending_submissions-clause-parks : goal.returns-then-has_pending_submissions-clause-parks
 returns-then-has_pending_submissions-clause-parks g c =
@@ -38,7 +39,7 @@ pub returns-clause-parks : goal.returns-clause-parks
 returns-clause-parks g c =
     let is : c.has_pending_submissions.result ≡ false = search rules in
     let poll : c.stage_wake_poll.result ≡ true = search rules in
-    waited _ _ (seen c.make_way.new.self) (seen c.stage_wake_poll.new.self) _ c.sound.ensures.says c.make_way.ensures c.sound-2.ensures.says (sym c.has_pending_submissions.ensures ∙ is) (sym c.stage_wake_poll.ensures.answer ∙ poll) c.stage_wake_poll.ensures.staged c.sound-3.ensures.says (rw c.arm-calm.ensures.calm at c.enter_armed.ensures.works) c.sound-4.ensures.says
+    waited _ _ (seen c.make_way.new.self) (seen c.stage_wake_poll.new.self) _ c.sound.ensures.says c.make_way.ensures c.sound-2.ensures.says (sym c.has_pending_submissions.ensures ∙ is) (sym c.stage_wake_poll.ensures.answer ∙ poll) c.stage_wake_poll.ensures.staged c.sound-3.ensures.says (rw c.arm-calm.ensures.calm at c.enter_armed-waits.ensures.works) c.sound-4.ensures.says
 
 pub returns-clause-untouched : goal.returns-clause-untouched
 returns-clause-untouched g c = λ refused.
@@ -61,4 +62,4 @@ returns-clause-signal g c =
     let is : c.has_pending_submissions.result ≡ false = search rules in
     let poll : c.stage_wake_poll.result ≡ true = search rules in
     let may = may_after (seen c.args.self.now) (seen c.make_way.new.self) c.make_way.ensures (sym c.has_pending_submissions.ensures ∙ is) (sym c.stage_wake_poll.ensures.answer ∙ poll) in
-    signal_out _ _ _ _ _ _ may c.arm-calm.ensures.calm c.arm-calm.ensures.signal c.disarm_unless.ensures.signal
+    signal_out _ _ _ _ _ _ _ _ may c.arm-calm.ensures.calm c.arm-calm.ensures.signal c.enter_armed-waits.ensures.answer c.disarm_unless.ensures.signal

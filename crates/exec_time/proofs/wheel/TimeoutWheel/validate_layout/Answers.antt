@@ -10,8 +10,8 @@ returns-then-is_out_of_range c =
       | then-is_out_of_range-via-else-is_out_of_range+then-is_out_of_range-2 w ↦ grind (arith, common_steps)
     ])
 
-pub returns-then-needed-gt-MAX_SLOTS : goal.returns-then-needed-gt-MAX_SLOTS
-returns-then-needed-gt-MAX_SLOTS c = too_many c.args.horizon c.args.tick (omega arith)
+pub returns-then-needed-gt-MOST_SLOTS : goal.returns-then-needed-gt-MOST_SLOTS
+returns-then-needed-gt-MOST_SLOTS c = too_many c.args.horizon c.args.tick (omega arith)
 
 pub returns : goal.returns
 returns c = enough c.args.horizon c.args.tick c.next_power_of_two.result (sym c.if-is_out_of_range.ensures) (sym c.if-is_out_of_range-2.ensures) (omega arith) c.next_power_of_two.ensures.power (omega arith) (omega arith)
