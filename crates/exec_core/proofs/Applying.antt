@@ -1,22 +1,69 @@
--- Steps of the clock, the kernel and peers: how the whole takes them.
-use Rattle.std.proofs.{Common.{◌<◌, ◌≡◌, ℕ, zero, suc, ◌+◌, ◌&&◌, ◌||◌, Bool, true, false, not, List, [], ◌∷◌, length, map, Option, Some, None, refl, sym, ap, ◌∙◌, arith, slice_get, slice_set, option_map}, lemmas.{Bool.{false≢true, and_parts}, List.{map-set}, Option.{slice_get-map, slice_get_within, get_or_from_slice_get}}}
-use Rattle.std.specs.Prelude.{slice_index_or}
-use Rattle.exec_outcomes.specs.declared.outcome.OpResult.{OpResult}
-use Rattle.exec_task.specs.declared.body.Said.{Said}
-use Rattle.exec_machine.specs.declared.event.Event.TheVariants as event
-use Rattle.exec_machine.specs.{declared.{event.{Event.Event, StepResult.TheVariants.Did}, state.{Rest.Rest, Request.Request}, step.Action.Action}, Callers.{after_landing, common_by}, Choice.Choice.Plain, Deadlines.roused_at, Progress.Plan, Tests.{has_ended}, World.{Common, no_seat, no_request, request_of}}
-use Rattle.exec_machine.specs.declared.state.Rest.TheVariants as rest
+-- Which steps may be taken, which the executor finds by its seats and records as the machine does; and how the whole takes those of
+-- the clock, the kernel and peers.
+use Rattle.std.{proofs.{Common.{◌≡◌, ℕ, zero, suc, ◌&&◌, ◌||◌, Bool, not, List, [], ◌∷◌, length, map, Option, Some, None, refl, sym, ap, ◌∙◌, arith, ◌+◌, true, false, slice_get, slice_set, option_map}, lemmas.{List.{length-map, map-set}, Bool.{false≢true, and_parts}, Option.{slice_get-map, slice_get_within, get_or_from_slice_get}}}, specs.{List.list_all, Prelude.slice_index_or}}
+use Rattle.exec_outcomes.specs.{Lawful.{window_of, is_lawful}, declared.outcome.OpResult.OpResult}
+use Rattle.exec_machine.specs.{declared.{step.Action.Action, event.{Event.Event, StepResult.TheVariants.Did}, state.{Rest.Rest, Request.Request}}, Callers.{is_enabled, is_half_done, may_work, after_landing, common_by}, Progress.Plan, Requests.{asked_of, cursor_of}, Tests.{is_awake, has_ended, is_flying}, World.{Seat, no_seat, no_request, Common, request_of}, Choice.Choice.Plain, Deadlines.roused_at}
+use Rattle.exec_moves.specs.{declared.handing.CallPlace.CallPlace, Plays.{Played, Playing, desk_of as desk_at, last_told}, State.{Desk, WakePoll, wake_poll_of, passed}, Thing.set_wake_poll}
+use Rattle.exec_parts.specs.{Spots.Spot, View.{Visible, visible, seat_seen, seats_seen, task_seen, Views, with_view, own_of, desk_of, common_of, polls_seen, queue_at, inbox_at, things_with, word_at}, declared.parts.{seat.Seat.Seat as Chair, record.Record.Record, shared.Shared.Shared, worker.Worker.Worker}, Phased.TurnsChair, Records.{rest_at, reached, roused}}
+use Rattle.exec_invariants.{specs.Drained.{HaveLeft, IsLetOn}, proofs.{SparedRecord.there_within, MailApplies.seats_viewed, Turning.set_found, Seats.{chair_set, seat_there}}}
+use Rattle.exec_polling.specs.{Calling.{call_of, is_free, desk_of_caller}, declared.caller.Caller.Caller}
+use Rattle.exec_core.{proofs.Lifting.{unchanged, suits_it, desk_there, views_with, playing_by, world_by, Said}, specs.{Lift.{world, may_take, may_call_in, may_go_on_in, may_work_in, may_land_in, has_begun, sleeps, all_left_of, Stands, playing, views, Takes, Sees, Rings, EndsPoll, Lands}, declared.executor.Core.Core}}
 use Rattle.exec_machine.specs.declared.step.Action.TheVariants as action
-use Rattle.exec_moves.specs.{Plays.{Played, Playing, desk_of as desk_at, last_told}, State.{Desk, WakePoll, wake_poll_of, passed}, Thing.set_wake_poll}
-use Rattle.exec_parts.specs.{declared.parts.{record.Record.Record, seat.Seat.Seat as Chair, shared.Shared.Shared, worker.Worker.Worker}, Phased.TurnsChair, Records.{rest_at, reached, roused}, Spots.Spot, View.{Views, Visible, visible, with_view, own_of, desk_of, common_of, seats_seen, seat_seen, polls_seen, queue_at, inbox_at, things_with, word_at}}
-use Rattle.exec_polling.specs.{Calling.{desk_of_caller}}
-use Rattle.exec_invariants.specs.Drained.{HaveLeft, IsLetOn}
-use Rattle.exec_invariants.proofs.SparedRecord.{there_within}
-use Rattle.exec_core.proofs.{Enabling.enabled_as, Lifting.{unchanged, suits_it, desk_there, views_with, playing_by, world_by}}
-use Rattle.exec_core.specs.{Lift.{may_land_in, Stands, world, playing, views, Takes, Sees, Rings, EndsPoll, Lands, may_take, may_work_in, has_begun, sleeps, all_left_of}, declared.executor.Core.Core}
-use Rattle.exec_invariants.proofs.MailApplies.{seats_viewed}
-use Rattle.exec_invariants.proofs.Turning.{set_found}
-use Rattle.exec_invariants.proofs.Seats.{chair_set}
+use Rattle.exec_machine.specs.declared.state.Call.TheVariants as half
+use Rattle.exec_machine.specs.declared.event.Event.TheVariants as event
+use Rattle.exec_machine.specs.declared.state.Rest.TheVariants as rest
+
+-- what is found by a chair is found by the seat that is seen of it
+by_chair : (vs : List Visible) (seats : List Chair) (i : ℕ) (f : Option Chair → Bool) (g : Seat → Bool) → length vs ≡ length seats → f None ≡ g no_seat
+    → ((v : Visible) (chair : Chair) → f (Some chair) ≡ g (seat_seen v chair)) → f (slice_get seats i) ≡ g (slice_index_or (seats_seen vs seats) i no_seat)
+by_chair [] [] i f g h none some = none
+by_chair [] (chair ∷ chairs) i f g h none some = absurd (omega (arith, h))
+by_chair (v ∷ vs) [] i f g h none some = absurd (omega (arith, h))
+by_chair (v ∷ vs) (chair ∷ chairs) zero f g h none some = some v chair
+by_chair (v ∷ vs) (chair ∷ chairs) (suc i) f g h none some = by_chair vs chairs i f g (omega (arith, h)) none some
+
+all_seen : (vs : List Visible) (seats : List Chair) → length vs ≡ length seats → all_left_of seats ≡ list_all (λ seat. seat.left || not seat.pool) (seats_seen vs seats)
+all_seen [] [] h = refl
+all_seen [] (chair ∷ chairs) h = absurd (omega (arith, h))
+all_seen (v ∷ vs) [] h = absurd (omega (arith, h))
+all_seen (v ∷ vs) (chair ∷ chairs) h = ap (λ b. (chair.left || not chair.pool) && b) (all_seen vs chairs (omega (arith, h)))
+
+by_map : {A X : Type 0} (v : A → X) (xs : List A) (i : ℕ) (d : X) (f : Option A → Bool) (g : X → Bool) → f None ≡ g d → ((a : A) → f (Some a) ≡ g (v a)) → f (slice_get xs i) ≡ g (slice_index_or (map v xs) i d)
+by_map v [] i d f g none some = none
+by_map v (x ∷ xs) zero d f g none some = some x
+by_map v (x ∷ xs) (suc i) d f g none some = by_map v xs i d f g none some
+
+-- a caller is free where its call isn't half done
+free_as : (p : CallPlace) → is_free p ≡ not (is_half_done (call_of p))
+free_as = grind arith
+
+calling_as : (p : CallPlace) → not (is_free p) ≡ is_half_done (call_of p)
+calling_as = grind arith
+
+may_call_as : (cs : List Caller) (j : ℕ) → may_call_in (slice_get cs j) ≡ not (is_half_done (slice_index_or (map (λ (x : Caller). call_of x.place) cs) j half.HalfDone))
+may_call_as cs j = by_map (λ (x : Caller). call_of x.place) cs j half.HalfDone may_call_in (λ x. not (is_half_done x)) refl (λ x. free_as x.place)
+
+module _ {B L : Type 0} (left : B → L) (spot : L → Option Said → Spot) where
+  pub enabled_as : (p : Plan) (c : Core B) (a : Action) → length c.workers.items ≡ length c.shared.seats.items → may_take c a ≡ is_enabled (world left spot p c).common a
+  enabled_as p c (action.Work i) seats =
+      let vs = map visible c.workers.items in
+      let same : length vs ≡ length c.shared.seats.items = length-map c.workers.items visible ∙ seats in
+      by_chair vs c.shared.seats.items i (may_work_in c.shared.seats.items) (may_work (world left spot p c).common) same refl
+      (λ v chair. ap (λ b. is_awake chair.rest && not (has_ended chair.phase) && not (chair.pool && chair.left && not b)) (all_seen vs c.shared.seats.items same))
+  enabled_as p c (action.Clock d) seats = refl
+  enabled_as p c (action.Land r n) seats =
+      by_map (λ x. x.shown) c.shared.requests.items r no_request (λ x. may_land_in x n) (λ it. is_flying it.phase && is_lawful (window_of (asked_of it.operation) (cursor_of it.operation)) n) refl (λ x. refl)
+  enabled_as p c (action.SetBusy i) seats =
+      by_chair (map visible c.workers.items) c.shared.seats.items i has_begun (λ seat. not (has_ended seat.phase)) (length-map c.workers.items visible ∙ seats) refl (λ v chair. refl)
+  enabled_as p c (action.EndPoll i) seats =
+      by_chair (map visible c.workers.items) c.shared.seats.items i has_begun (λ seat. not (has_ended seat.phase)) (length-map c.workers.items visible ∙ seats) refl (λ v chair. refl)
+  enabled_as p c (action.Stir i) seats =
+      by_chair (map visible c.workers.items) c.shared.seats.items i sleeps (λ seat. not (is_awake seat.rest)) (length-map c.workers.items visible ∙ seats) refl (λ v chair. refl)
+  enabled_as p c (action.Peer l) seats = refl
+  enabled_as p c (action.Spawn j k) seats = may_call_as c.callers.items j
+  enabled_as p c (action.Wake j t) seats = grind (arith, may_call_as c.callers.items j, length-map c.shared.tasks.items (task_seen left spot))
+  enabled_as p c (action.GoOn j) seats =
+      by_map (λ (x : Caller). call_of x.place) c.callers.items j half.Nothing may_go_on_in is_half_done refl (λ x. calling_as x.place)
 
 -- WHAT MAY BE TAKEN IS THERE
 
@@ -35,28 +82,15 @@ all_left (seat ∷ seats) all (suc j) chair there = all_left seats (and_parts (s
 let_on_by : (seats : List Chair) (o : Option Chair) → may_work_in seats o ≡ true → (chair : Chair) → o ≡ Some chair → chair.pool ≡ true → chair.left ≡ true → HaveLeft seats
 let_on_by = grind (arith, all_left, left_by)
 
-pub begun_there : (o : Option Chair) → has_begun o ≡ true → (chair : Chair) × (o ≡ Some chair)
-begun_there None h = absurd (false≢true h)
-begun_there (Some chair) h = (chair, refl)
-
-pub asleep_there : (o : Option Chair) → sleeps o ≡ true → (chair : Chair) × (o ≡ Some chair)
-asleep_there None h = absurd (false≢true h)
-asleep_there (Some chair) h = (chair, refl)
-
-pub landing_there : (o : Option Record) (n : OpResult) → may_land_in o n ≡ true → (it : Record) × (o ≡ Some it)
-landing_there None n h = absurd (false≢true h)
-landing_there (Some it) n h = (it, refl)
-
-pub working_there : (seats : List Chair) (o : Option Chair) → may_work_in seats o ≡ true → (chair : Chair) × (o ≡ Some chair)
-working_there seats None h = absurd (false≢true h)
-working_there seats (Some chair) h = (chair, refl)
+-- what passes a test that none passes is there
+pub found_by : {A : Type 0} (may : Option A → Bool) (o : Option A) → may None ≡ false → may o ≡ true → (x : A) × (o ≡ Some x)
+found_by may None none h = absurd (false≢true (sym none ∙ h))
+found_by may (Some x) none h = (x, refl)
 
 module _ {B : Type 0} where
   -- a worker for each chair
   pub worker_there : (c : Core B) (i : ℕ) (chair : Chair) → Stands c → slice_get c.shared.seats.items i ≡ Some chair → (w : Worker) × (slice_get c.workers.items i ≡ Some w)
-  worker_there c i chair stands there =
-      let within : i < length c.workers.items = (let inside = slice_get_within c.shared.seats.items i chair there in omega (arith, inside, stands.together.seats)) in
-      there_within c.workers.items i within
+  worker_there c i chair stands there = there_within c.workers.items i (let inside = slice_get_within c.shared.seats.items i chair there in omega (arith, inside, stands.together.seats))
 
   -- each request is one of a worker that is there
   pub owner_there : (c : Core B) (r : ℕ) (it : Record) → Stands c → slice_get c.shared.requests.items r ≡ Some it → (w : Worker) × (slice_get c.workers.items it.shown.worker ≡ Some w)
@@ -66,6 +100,12 @@ module _ {B : Type 0} where
   let_on_there c i w stands was may chair there passed =
       let it = stands.together.sound i w was in
       let_on_by c.shared.seats.items (slice_get c.shared.seats.items i) may chair (ap (slice_get c.shared.seats.items) (sym it.0) ∙ there) (and_parts chair.pool _ (sym (it.1.phased chair there).left ∙ passed)).0 passed
+
+  -- what parties share is seen by these parts of it
+  things_kept : (vs : Views) (s s' : Shared B) → s'.global ≡ s.global → s'.idle ≡ s.idle → s'.barrier_open ≡ s.barrier_open → s'.set ≡ s.set → s'.requests ≡ s.requests → s'.sleepers ≡ s.sleepers → s'.opens ≡ s.opens
+      → map queue_at s'.seats.items ≡ map queue_at s.seats.items → map word_at s'.seats.items ≡ map word_at s.seats.items → map inbox_at s'.seats.items ≡ map inbox_at s.seats.items
+      → polls_seen vs.workers s'.seats.items ≡ polls_seen vs.workers s.seats.items → things_with vs s' ≡ things_with vs s
+  things_kept = grind arith
 
 -- WHAT IS SEEN OF THE SEATS
 
@@ -77,11 +117,8 @@ all_roused clock [] seats = refl
 all_roused clock (v ∷ vs) [] = refl
 all_roused clock (v ∷ vs) (chair ∷ chairs) = rw (all_roused clock vs chairs, roused_one clock v chair chair.rest) refl
 
-seat_there : (vs : List Visible) (seats : List Chair) (i : ℕ) (v : Visible) (chair : Chair) → slice_get vs i ≡ Some v → slice_get seats i ≡ Some chair → slice_index_or (seats_seen vs seats) i no_seat ≡ seat_seen v chair
-seat_there [] seats i v chair seen there = absurd (cc)
-seat_there (x ∷ vs) [] i v chair seen there = absurd (cc)
-seat_there (x ∷ vs) (seat ∷ seats) zero v chair seen there = grind arith
-seat_there (x ∷ vs) (seat ∷ seats) (suc i) v chair seen there = seat_there vs seats i v chair seen there
+seat_is : (vs : List Visible) (seats : List Chair) (i : ℕ) (v : Visible) (chair : Chair) → slice_get vs i ≡ Some v → slice_get seats i ≡ Some chair → slice_index_or (seats_seen vs seats) i no_seat ≡ seat_seen v chair
+seat_is vs seats i v chair seen there = get_or_from_slice_get (seats_seen vs seats) i (seat_seen v chair) no_seat (seat_there vs seats i v chair seen there)
 
 -- WHAT PARTIES SHARE, where only the rests of seats change, or a ring is busy
 
@@ -107,12 +144,6 @@ polls_busy (x ∷ vs) [] (suc i) v there = refl
 polls_busy (x ∷ vs) (seat ∷ seats) zero v there = grind arith
 polls_busy (x ∷ vs) (seat ∷ seats) (suc i) v there = rw (polls_busy vs seats i v there) refl
 
-module _ {B : Type 0} where
-  things_kept : (vs : Views) (s s' : Shared B) → s'.global ≡ s.global → s'.idle ≡ s.idle → s'.barrier_open ≡ s.barrier_open → s'.set ≡ s.set → s'.requests ≡ s.requests → s'.sleepers ≡ s.sleepers → s'.opens ≡ s.opens
-      → map queue_at s'.seats.items ≡ map queue_at s.seats.items → map word_at s'.seats.items ≡ map word_at s.seats.items → map inbox_at s'.seats.items ≡ map inbox_at s.seats.items
-      → polls_seen vs.workers s'.seats.items ≡ polls_seen vs.workers s.seats.items → things_with vs s' ≡ things_with vs s
-  things_kept = grind arith
-
 module _ {B L : Type 0} (left : B → L) (spot : L → Option Said → Spot) where
   -- a step of no party: the whole is as before, but for what all share, and what the machine has of that
   by_nobody : (p : Plan) (c d : Core B) (a : Action) (e : Event) → d.workers ≡ c.workers → d.callers ≡ c.callers
@@ -133,10 +164,10 @@ module _ {B L : Type 0} (left : B → L) (spot : L → Option Said → Spot) whe
       → Takes left spot p c (action.Stir i) event.Stir d
   stirred p c d i stands may workers callers turns kept =
       let vs = views c in
-      let chair = asleep_there (slice_get c.shared.seats.items i) may in
+      let chair = found_by sleeps (slice_get c.shared.seats.items i) refl may in
       let w = worker_there c i chair.0 stands chair.1 in
       let seen : slice_get vs.workers i ≡ Some (visible w.0) = slice_get-map visible c.workers.items i ∙ ap (option_map visible) w.1 in
-      let here : slice_index_or (seats_seen vs.workers c.shared.seats.items) i no_seat ≡ seat_seen (visible w.0) chair.0 = seat_there vs.workers c.shared.seats.items i (visible w.0) chair.0 seen chair.1 in
+      let here : slice_index_or (seats_seen vs.workers c.shared.seats.items) i no_seat ≡ seat_seen (visible w.0) chair.0 = seat_is vs.workers c.shared.seats.items i (visible w.0) chair.0 seen chair.1 in
       let seats : d.shared.seats.items ≡ slice_set c.shared.seats.items i (roused chair.0) = turns chair.0 chair.1 in
       let seats_then : seats_seen vs.workers d.shared.seats.items ≡ slice_set (seats_seen vs.workers c.shared.seats.items) i (record (slice_index_or (seats_seen vs.workers c.shared.seats.items) i no_seat) { rest = rest.Awake }) =
       ap (seats_seen vs.workers) seats ∙ chair_set vs.workers c.shared.seats.items i (visible w.0) (roused chair.0) seen ∙ ap (λ x. slice_set (seats_seen vs.workers c.shared.seats.items) i (record x { rest = rest.Awake })) (sym here) in
@@ -152,11 +183,11 @@ module _ {B L : Type 0} (left : B → L) (spot : L → Option Said → Spot) whe
       → Takes left spot p c (action.SetBusy i) event.Set d
   set_busy p c d i stands may sees =
       let vs = views c in
-      let chair = begun_there (slice_get c.shared.seats.items i) may in
+      let chair = found_by has_begun (slice_get c.shared.seats.items i) refl may in
       let shared : d.shared ≡ c.shared = ap (λ (x : Core B). x.shared) sees.now in
       let callers : d.callers ≡ c.callers = ap (λ (x : Core B). x.callers) sees.now in
       let seen : slice_get vs.workers i ≡ Some (visible sees.before) = slice_get-map visible c.workers.items i ∙ ap (option_map visible) sees.was in
-      let here : slice_index_or (seats_seen vs.workers c.shared.seats.items) i no_seat ≡ seat_seen (visible sees.before) chair.0 = seat_there vs.workers c.shared.seats.items i (visible sees.before) chair.0 seen chair.1 in
+      let here : slice_index_or (seats_seen vs.workers c.shared.seats.items) i no_seat ≡ seat_seen (visible sees.before) chair.0 = seat_is vs.workers c.shared.seats.items i (visible sees.before) chair.0 seen chair.1 in
       let busy : Visible = record (visible sees.before) { busy = true } in
       let views_are : views d ≡ with_view vs i busy = views_with c d i sees.after sees.workers callers ∙ ap (with_view vs i) sees.seen in
       let seats : seats_seen (slice_set vs.workers i busy) c.shared.seats.items ≡ slice_set (seats_seen vs.workers c.shared.seats.items) i (record (slice_index_or (seats_seen vs.workers c.shared.seats.items) i no_seat) { busy = true }) =

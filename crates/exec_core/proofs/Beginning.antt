@@ -1,24 +1,61 @@
--- The first state: all that a worker rests on holds.
-use Rattle.std.proofs.{Common.{◌≡◌, ℕ, zero, suc, ◌<◌, ◌≤◌, true, List, [], ◌∷◌, length, map, replicate, Some, None, refl, sym, ap, subst, ◌∙◌, arith, slice_get}, lemmas.{Bool.{false≢true}, Option.slice_get_within}}
-use Rattle.std.specs.Prelude.{nat_lt}
-pub use Rattle.std.proofs.lemmas.Bool.{lt-ltb}
-use Rattle.exec_task.specs.declared.runnable.Runnable.{Runnable}
-use Rattle.exec_opens.specs.Opens.{OpenState, fresh_open}
-use Rattle.exec_machine.specs.{declared.config.Configuration.Configuration, World.no_open}
-use Rattle.exec_moves.specs.Pop.{shard_count}
+-- The first state: what the ranges of a configuration give, and all that a worker rests on holds; its seats, roots and workers come
+-- one after another.
+use Rattle.std.{proofs.{Common.{◌≡◌, ℕ, zero, suc, ◌*◌, ◌^◌, ◌≤◌, true, refl, ap, ◌∙◌, arith, ◌<◌, List, [], ◌∷◌, length, map, replicate, Some, None, sym, subst, slice_get, ◌+◌, false, ◌++◌, inl, inr}, lemmas.{Bool.{and_parts, leb-true, false≢true, lt-ltb}, Option.slice_get_within, List.{length-append, length-replicate}}}, specs.Prelude.nat_lt}
+use Rattle.exec_base.specs.declared.limits.TheConstants.{LONGEST_TIMEOUT}
+use Rattle.exec_machine.specs.{declared.{config.Configuration.Configuration, state.Waiting.TheVariants.Nothing}, Ranges.{doubled_up_to, ticks_needed}}
+use Rattle.exec_ring.specs.declared.store.Store.{Store}
+use Rattle.exec_opens.specs.Opens.{fresh_open}
+use Rattle.exec_task.specs.{TaskSet.IsShardCount, declared.{runnable.Runnable.Runnable, body.Said.TheVariants.Start, task.Phase.TheVariants.Queued}, Phases.runnable_of}
+use Rattle.exec_moves.specs.Pop.{power_from, shard_count}
+use Rattle.exec_parts.{specs.{Roles.MayBegin, declared.parts.{record.Record.Record, role.Role.TheVariants.Pool, shared.Shared.Shared, task_slot.TaskSlot.TaskSlot, worker.Worker.Worker, seat.Seat.Seat as Chair}, Dedicated.Begins, Records.IsFreshSeat}, proofs.{LeafPowers.power_is, Facts.same_Some}}
+use Rattle.exec_invariants.{specs.{Gates.{AreLinedUp, IsLinedUp}, Sound.{AreHome, IsConfig, Sound}}, proofs.{SparedRecord.there_within, HoldSteps.get_front}}
+use Rattle.exec_polling.{specs.declared.caller.Caller.Caller, proofs.{Begun.{begun_sound, none_there, not_both}, GateGrown.found_last}}
+use Rattle.exec_steps.proofs.Together.{last_or_before}
+use Rattle.exec_core.specs.{Ranges.is_in_range, Firsts.{IsFirst, AllBegin, HasRoots, IsBare, IsRoot}}
 use Rattle.exec_moves.specs.declared.handing.CallPlace.TheVariants as call
-use Rattle.exec_parts.specs.{declared.parts.{record.Record.Record, role.Role.TheVariants.Pool, shared.Shared.Shared, task_slot.TaskSlot.TaskSlot, worker.Worker.Worker}, Dedicated.Begins, View.open_seen}
-use Rattle.exec_polling.specs.declared.caller.Caller.{Caller}
-use Rattle.exec_invariants.specs.{Gates.{AreLinedUp, IsLinedUp}, Sound.{AreHome, AreResting, IsConfig, Sound}}
-use Rattle.exec_parts.proofs.Facts.{same_Some}
-use Rattle.exec_polling.proofs.Begun.{begun_sound, none_there, not_both}
-use Rattle.exec_invariants.proofs.SparedRecord.{there_within}
-use Rattle.exec_core.proofs.Powers.{InRange, shards_of}
-use Rattle.exec_core.specs.Firsts.{IsFirst}
+use Rattle.exec_base.specs.declared.one_shot.OneShotState.TheVariants as shot
 
-pub opens_begun : (n : ℕ) → map (open_seen []) (replicate n fresh_open) ≡ replicate n no_open
-opens_begun zero = refl
-opens_begun (suc n) = ap (λ xs. no_open ∷ xs) (opens_begun n)
+-- A CONFIGURATION IN ITS RANGES
+
+pub record InRange (c : Configuration) : Type 0 where
+  pub some_workers : 1 ≤ c.workers
+  pub workers : c.workers ≤ 64
+  pub interval : 1 ≤ c.interval
+  pub ring : c.ring ≤ 32768
+  pub tick : (1 ≤ c.tick) × (c.tick ≤ LONGEST_TIMEOUT)
+  pub connect : (1 ≤ c.connect) × (c.connect ≤ LONGEST_TIMEOUT)
+  pub rw : (1 ≤ c.rw) × (c.rw ≤ LONGEST_TIMEOUT)
+  pub spins : c.spin.budget ≤ c.spin.most
+  pub layout : ticks_needed c ≤ 2 ^ 20
+  pub files : c.files ≤ 64
+
+pub in_range : (c : Configuration) → is_in_range c ≡ true → InRange c
+in_range = grind (arith, and_parts, leb-true)
+
+-- what a worker needs to begin
+pub may_begin : (c : Configuration) → InRange c → MayBegin c
+may_begin c r = record { ring = r.ring; tick = r.tick; connect = r.connect; rw = r.rw; spins = r.spins; layout = r.layout }
+
+-- THE SHARDS of a task set
+
+from_doubled : (more p n : ℕ) → doubled_up_to more p n ≡ power_from more p n
+from_doubled zero p n = refl
+from_doubled (suc more) p n = grind (arith, from_doubled more (p * 2) n)
+
+pub shards_of : (c : Configuration) (count : ℕ) → InRange c → IsShardCount c.workers count → count ≡ shard_count c
+shards_of c count r it =
+    it.four_each ∙ ap (λ p. p * 4) (power_is 6 c.workers it.power it.is_power it.enough (omega (arith, it.least)) (omega (arith, r.workers)) ∙ from_doubled 6 1 c.workers)
+
+-- LISTS of one thing so many times
+
+pub map_replicate : {A X : Type 0} (f : A → X) (x : A) (n : ℕ) → map f (replicate n x) ≡ replicate n (f x)
+map_replicate f x zero = refl
+map_replicate f x (suc n) = ap (λ xs. f x ∷ xs) (map_replicate f x n)
+
+pub replicated : {A : Type 0} (n i : ℕ) (x y : A) → slice_get (replicate n x) i ≡ Some y → x ≡ y
+replicated zero i x y there = absurd (cc)
+replicated (suc n) zero x y there = same_Some x y there
+replicated (suc n) (suc i) x y there = replicated n i x y there
 
 pub config_sound : (c : Configuration) → InRange c → IsConfig c
 config_sound = grind arith
@@ -29,20 +66,11 @@ free_caller = record { place = call.Nothing; hand = None }
 
 -- GATES without a line
 
-opens_many : (n : ℕ) → length (replicate n fresh_open) ≡ n
-opens_many zero = refl
-opens_many (suc n) = ap suc (opens_many n)
-
-fresh_at : (n file : ℕ) (o : OpenState) → slice_get (replicate n fresh_open) file ≡ Some o → fresh_open ≡ o
-fresh_at zero file o there = absurd (cc)
-fresh_at (suc n) zero o there = same_Some fresh_open o there
-fresh_at (suc n) (suc file) o there = fresh_at n file o there
-
 none_lined : (file : ℕ) (records : List Record) → records ≡ [] → IsLinedUp file fresh_open records
 none_lined = grind arith
 
 pub gates_begun : (n : ℕ) (records : List Record) → n ≤ 64 → records ≡ [] → AreLinedUp (replicate n fresh_open) records
-gates_begun = grind (arith, fresh_at, none_lined, none_there, opens_many)
+gates_begun = grind (arith, replicated, none_lined, none_there, length-replicate)
 
 module _ {B : Type 0} (c : Configuration) (roots : List B) (s : Shared B) (rs : List Runnable) (range : InRange c) (many : length roots ≡ c.workers) (first : IsFirst c roots s rs) where
   tasks_many : length s.tasks.items ≡ c.workers
@@ -58,17 +86,11 @@ module _ {B : Type 0} (c : Configuration) (roots : List B) (s : Shared B) (rs : 
   pub homes_begun : AreHome c.workers (length s.seats.items) s.tasks.items
   homes_begun = grind (arith, seats_many, tasks_many, its_home, slice_get_within, same_Some)
 
-  pub resting_begun : AreResting s.tasks.items
-  resting_begun t slot there ordinary unpolled = absurd (not_both slot.home t ordinary (its_home t slot there))
-
   config_is : s.config ≡ c
   config_is = ap (λ (z : Shared B). z.config) first.bare.parts
 
   clock_is : s.clock ≡ 0
   clock_is = ap (λ (z : Shared B). z.clock) first.bare.parts
-
-  pub shards_many : length s.set.shards ≡ shard_count c
-  shards_many = shards_of c (length s.set.shards) range first.bare.shards
 
   pub first_sound : (i : ℕ) (w : Worker) (r : Runnable) → slice_get rs i ≡ Some r → Begins c (Pool i) i i r 0 w → Sound w s
   first_sound i w r mine begins =
@@ -83,7 +105,7 @@ module _ {B : Type 0} (c : Configuration) (roots : List B) (s : Shared B) (rs : 
         gates = subst (λ os. AreLinedUp os s.requests.items) (sym (ap (λ (z : Shared B). z.opens) first.bare.parts)) (gates_begun c.files s.requests.items range.files first.bare.requests);
         of_role = record { owns = refl; pool = sym pool; few = omega (arith, within, range.workers) };
         homes = rw config_is homes_begun;
-        shards = rw config_is shards_many;
+        shards = rw config_is (shards_of c (length s.set.shards) range first.bare.shards);
         bounded = rw clock_is (omega arith);
         chair = chair.0;
         seated = chair.1;
@@ -97,9 +119,80 @@ module _ {B : Type 0} (c : Configuration) (roots : List B) (s : Shared B) (rs : 
         nothing = λ k x found. absurd (none_there s.requests.items k x first.bare.requests found);
         nobody = λ k x found. absurd (none_there s.sleepers.items k x first.bare.sleepers found);
         few = rw first.bare.requests (omega arith);
-        resting = resting_begun;
+        resting = λ t slot there ordinary unpolled. absurd (not_both slot.home t ordinary (its_home t slot there));
         owning = λ k x found. absurd (none_there s.requests.items k x first.bare.requests found);
         room = λ out socket. rw first.bare.requests (omega arith);
         at_zero = λ h. (ap (λ (z : Shared B). z.stopped) first.bare.parts, ap (λ (z : Shared B). z.set.closed) first.bare.parts);
         closed = λ h. absurd (false≢true (sym (ap (λ (z : Shared B). z.stopped) first.bare.parts) ∙ h));
       })
+
+-- ONE MORE at the end of a list
+
+one_more : {A C : Type 0} (xs : List A) (ys : List C) (x : A) (y : C) → length xs ≡ length ys → length (xs ++ x ∷ []) ≡ length (ys ++ y ∷ [])
+one_more xs ys x y same = length-append xs (x ∷ []) ∙ ap (λ n. n + 1) same ∙ sym (length-append ys (y ∷ []))
+
+-- WORKERS
+
+pub begin_more : (c : Configuration) (rs : List Runnable) (ws : List Worker) (r : Runnable) (w : Worker) → AllBegin c rs ws → Begins c (Pool (length ws)) (length ws) (length ws) r 0 w → AllBegin c (rs ++ r ∷ []) (ws ++ w ∷ [])
+begin_more c rs ws r w all begins =
+    record {
+      many = one_more ws rs w r all.many;
+      each = λ i v there.
+          elim (last_or_before ws i w v there) [
+            | inl found ↦ let it = all.each i v found in (it.0, get_front rs (r ∷ []) i it.0 it.1, it.2)
+            | inr last ↦ (
+              r,
+              ap (slice_get (rs ++ r ∷ [])) (last.0 ∙ all.many) ∙ found_last rs r,
+              subst (λ k. Begins c (Pool k) k k r 0 v) (sym last.0) (subst (Begins c (Pool (length ws)) (length ws) (length ws) r 0) last.1 begins),
+            )
+          ];
+    }
+
+module _ {B : Type 0} where
+  -- SEATS AND ROOTS
+
+  pub roots_more : (roots : List B) (seats : List Chair) (tasks : List (TaskSlot B)) (rs : List Runnable) (body : B) (chair : Chair) (slot : TaskSlot B) (r : Runnable) → HasRoots roots seats tasks rs
+      → IsFreshSeat true chair → IsRoot (length tasks) body slot → r ≡ runnable_of slot.cell → HasRoots (roots ++ body ∷ []) (seats ++ chair ∷ []) (tasks ++ slot ∷ []) (rs ++ r ∷ [])
+  roots_more roots seats tasks rs body chair slot r has fresh root queued =
+      record {
+        seats_many = one_more seats roots chair body has.seats_many;
+        tasks_many = one_more tasks roots slot body has.tasks_many;
+        runnables_many = one_more rs roots r body has.runnables_many;
+        fresh = λ i x there.
+            elim (last_or_before seats i chair x there) [
+              | inl found ↦ has.fresh i x found
+              | inr last ↦ subst (IsFreshSeat true) last.1 fresh
+            ];
+        root = λ i x there.
+            elim (last_or_before tasks i slot x there) [
+              | inl found ↦ let it = has.root i x found in (it.0, get_front roots (body ∷ []) i it.0 it.1, it.2)
+              | inr last ↦ (
+                body,
+                ap (slice_get (roots ++ body ∷ [])) (last.0 ∙ has.tasks_many) ∙ found_last roots body,
+                subst (λ k. IsRoot k body x) (sym last.0) (subst (IsRoot (length tasks) body) last.1 root),
+              )
+            ];
+        queued = λ i x there.
+            elim (last_or_before rs i r x there) [
+              | inl found ↦ let it = has.queued i x found in (it.0, get_front tasks (slot ∷ []) i it.0 it.1, it.2)
+              | inr last ↦ (
+                slot,
+                ap (slice_get (tasks ++ slot ∷ [])) (last.0 ∙ has.runnables_many ∙ sym has.tasks_many) ∙ found_last tasks slot,
+                sym last.1 ∙ queued,
+              )
+            ];
+      }
+
+  pub root_is : (i n owner : ℕ) (body : B) (slot : TaskSlot B) → n ≡ i → owner ≡ 1 → slot.cell ≡ record { number = record { 0 = n }; owner = owner; phase = Queued body; cancelled = false }
+      → slot ≡ record { cell = slot.cell; body = None; told = Some Start; held = slot.held; waiting = Nothing; output = shot.Open; fresh = false; cleared = false; home = Some n; poller = 0 } → slot.held.items ≡ [] → IsRoot i body slot
+  root_is = grind arith
+
+  -- WHAT IS SHARED beside them
+
+  -- seats and tasks are put in
+  pub bare_with : (c : Configuration) (n : ℕ) (s u : Shared B) → IsBare c n s → u ≡ record s { seats = u.seats; tasks = u.tasks } → IsBare c n u
+  bare_with = grind arith
+
+  -- the bytes of sockets and files are another's
+  pub with_store : (c : Configuration) (roots : List B) (s : Shared B) (rs : List Runnable) (x : Store) → IsFirst c roots s rs → IsFirst c roots (record s { store = x }) rs
+  with_store = grind arith

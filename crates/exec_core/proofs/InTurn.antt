@@ -1,21 +1,16 @@
 -- In each state of an executor durable requests take turns, by the gates, and no write and no sync is cancelled, by what each
 -- worker has of its own requests. Once an open keeps a failure, no durable request of it ends well.
-use Rattle.std.proofs.{Common.{◌≡◌, ℕ, ◌&&◌, ◌||◌, Bool, true, false, not, List, map, slice_get, Option, Some, None, refl, sym, ap, subst, ◌∙◌}, lemmas.Bool.false≢true}
-use Rattle.std.proofs.Common.{arith}
-use Rattle.exec_base.specs.{Slab.value_at}
-use Rattle.exec_outcomes.specs.{Accounts.{is_durable}}
+use Rattle.std.proofs.{Common.{◌≡◌, ℕ, ◌&&◌, ◌||◌, Bool, true, false, not, List, map, slice_get, Option, Some, None, refl, sym, ap, subst, ◌∙◌, arith}, lemmas.Bool.false≢true}
+use Rattle.exec_base.specs.Slab.{value_at}
+use Rattle.exec_outcomes.specs.Accounts.{is_durable}
+use Rattle.exec_machine.specs.{declared.state.Request.Request, Progress.Plan, Tests.{is_gated, is_kept, is_resolved}}
 use Rattle.exec_request.specs.States.{asks_cancel}
-use Rattle.exec_task.specs.declared.body.Said.{Said}
 use Rattle.exec_waiters.{specs.{States.waiter_at, declared.waiter.Waiter.Waiter}, proofs.Changes.entry_of}
 use Rattle.exec_opens.specs.Opens.{OpenState}
-use Rattle.exec_machine.specs.{declared.state.Request.Request, Progress.Plan, Tests.{is_gated, is_kept, is_resolved}}
 use Rattle.exec_moves.specs.Plays.{Playing}
-use Rattle.exec_parts.specs.{declared.parts.{mail.Reply.Reply, record.Record.Record, shared.Shared.Shared, worker.Worker.Worker}, Records.number_in, Spots.Spot, View.driver_of}
-use Rattle.exec_invariants.specs.{Gates.{AreLinedUp, key_for}, Sound.Sound}
-use Rattle.exec_parts.proofs.Facts.{false_from_ne_true}
-use Rattle.exec_invariants.proofs.{Gated.durable_of_file, SparedRecord.there_within}
-use Rattle.exec_core.specs.{declared.executor.Core.Core, Lift.{Stands, Shows}, Turns.{IsOrderly, TakeTurns, has_permit}}
-use Rattle.exec_core.proofs.{QueuedOnce.slot_of, RootsOnce.queues_once}
+use Rattle.exec_parts.{specs.{declared.parts.{mail.Reply.Reply, record.Record.Record, shared.Shared.Shared, worker.Worker.Worker}, Records.number_in, Spots.Spot, View.driver_of}, proofs.Facts.false_from_ne_true}
+use Rattle.exec_invariants.{specs.{Gates.{AreLinedUp, key_for}, Sound.Sound}, proofs.{Gated.durable_of_file, SparedRecord.there_within, Lined.unmapped}}
+use Rattle.exec_core.{specs.{declared.executor.Core.Core, Lift.{Stands, Shows}, Turns.{IsOrderly, TakeTurns, has_permit}}, proofs.{QueuedOnce.queues_once, Lifting.Said}}
 
 -- THE PERMIT
 
@@ -58,12 +53,12 @@ module _ {B : Type 0} where
       let lined = (stands.together.sound 0 first.0 first.1).1.gates in
       record {
         one = λ j k q r at_j at_k mine yours same.
-            let a = slot_of (λ (x : Record). x.shown) rs j q at_j in
-            let b = slot_of (λ (x : Record). x.shown) rs k r at_k in
+            let a = unmapped (λ (x : Record). x.shown) rs j q at_j in
+            let b = unmapped (λ (x : Record). x.shown) rs k r at_k in
             one_has c.shared.opens rs lined j k a.0 b.0 a.1 b.1 (ap has_permit a.2 ∙ mine) (ap has_permit b.2 ∙ yours)
             (ap (λ (x : Request). x.operation.target) a.2 ∙ same ∙ sym (ap (λ (x : Request). x.operation.target) b.2));
         uncancelled = λ k r at kept going.
-            let a = slot_of (λ (x : Record). x.shown) rs k r at in
+            let a = unmapped (λ (x : Record). x.shown) rs k r at in
             let w = there_within c.workers.items a.0.shown.worker (stands.owned k a.0 a.1) in
             let it = stands.together.sound a.0.shown.worker w.0 w.1 in
             sym (ap (λ (x : Request). x.cancelled) a.2)

@@ -1,28 +1,21 @@
 -- Own part and common part are changed by a step of one worker, and all else is as it was: so the whole takes a step of
 -- the machine, and that of the moves.
-use Rattle.std.proofs.{Common.{◌≡◌, ◌≢◌, ℕ, suc, ◌+◌, ◌<◌, ◌≤◌, Bool, true, false, List, [], ◌∷◌, ◌++◌, length, map, Option, None, Some, refl, sym, ap, subst, ◌∙◌, ⊎_elim, arith, option_to_list, slice_get, slice_set}, lemmas.{Bool.cases_lt, List.{map-append, map-set, length-set, length-map, length-append, append-nil}, Option.{slice_get-map, slice_get_within, get_or_from_slice_get}}}
-use Rattle.exec_task.specs.declared.body.Said.{Said}
+pub use Rattle.exec_task.specs.declared.body.Said.{Said}
+use Rattle.std.proofs.{Common.{◌≡◌, ◌≢◌, ℕ, suc, ◌+◌, ◌<◌, ◌≤◌, Bool, true, false, List, [], ◌∷◌, ◌++◌, length, map, Option, None, Some, refl, sym, ap, subst, ◌∙◌, arith, option_to_list, slice_get, slice_set, inl, inr}, lemmas.{Bool.cases_lt, List.{map-append, map-set, length-set, length-map, length-append, append-nil}, Option.{slice_get-map, slice_get_within, get_or_from_slice_get}}}
 use Rattle.exec_machine.specs.{declared.{config.Configuration.Configuration, event.{Event.Event, StepResult.TheVariants.Did}}, After.{own_after, common_after, made_by}, Callers.is_enabled, Choice.Choice, Progress.Plan, Run.after_event, World.{World, Own, Common, no_own, own_of as own_at}}
-use Rattle.exec_machine.specs.declared.step.Action.TheVariants as action
 use Rattle.exec_moves.specs.{Pop.shard_count, Call.CallDesk, Plays.{Played, Playing, by_action, by_move, desk_of as desk_at, first_desk, newcomers}, State.{Desk, Things}}
-use Rattle.exec_parts.specs.{declared.parts.{record.Record.Record, seat.Seat.Seat as Chair, shared.Shared.Shared, sleeping.SleeperRecord.SleeperRecord, task_slot.TaskSlot.TaskSlot, worker.Worker.Worker}, Spots.Spot, View.{Views, Visible, own_of, visible, with_view, desk_of, common_of, seats_seen, things_with}}
+use Rattle.exec_parts.{specs.{declared.parts.{record.Record.Record, seat.Seat.Seat as Chair, shared.Shared.Shared, sleeping.SleeperRecord.SleeperRecord, task_slot.TaskSlot.TaskSlot, worker.Worker.Worker}, Spots.Spot, View.{Views, Visible, own_of, visible, with_view, desk_of, common_of, seats_seen, things_with}}, proofs.Facts.{by_number, same_Some}}
+use Rattle.exec_invariants.{specs.{Acting.PerformsAll, Sound.Sound, Spares.SparesBy, Whole.{IsWhole, Profile}, Works.{Beside, BesideNewcomer, BesideWith, WorksWith, Suits, with_born}}, proofs.{SparedRecord.there_within, Turning.set_found, Lined.mapped}}
 use Rattle.exec_polling.specs.{declared.caller.Caller.Caller, Calling.{CallBeside, CallSound, desk_of_caller}}
-use Rattle.exec_invariants.specs.{Acting.PerformsAll, Sound.Sound, Spares.SparesBy, Whole.{IsWhole, Profile}, Works.{Beside, BesideNewcomer, BesideWith, WorksWith, Suits, with_born}}
-use Rattle.exec_steps.specs.Together.{StandTogether}
-use Rattle.exec_parts.proofs.Facts.{by_number, same_Some}
-use Rattle.exec_invariants.proofs.SparedRecord.{there_within}
-use Rattle.exec_steps.proofs.Together.{caller_stepped, worker_born, worker_stepped}
+use Rattle.exec_steps.{specs.Together.StandTogether, proofs.Together.{caller_stepped, worker_born, worker_stepped}}
 use Rattle.exec_core.specs.{Lift.{Stands, world, playing, views, WorkerSteps, WorkerStays, Takes, IsAsBefore}, declared.executor.Core.Core}
-use Rattle.exec_invariants.proofs.Turning.{set_found}
-use Rattle.exec_invariants.proofs.Lined.{mapped}
+use Rattle.exec_machine.specs.declared.step.Action.TheVariants as action
 
 -- LISTS
 
-not_longer : (n : ℕ) → n ≡ n + 1 → ⊥
-not_longer n h = omega arith
-
-pub suc_same : (n m : ℕ) → suc n ≡ suc m → n ≡ m
-suc_same n m h = omega arith
+-- what would be below the less, were it not below the greater
+still_below : (n m i : ℕ) → n ≤ m → (m ≤ i → i < n) → i < m
+still_below n m i grows past = elim (cases_lt i m) [ inl within ↦ within | inr over ↦ (let less = past over in omega (arith, less, grows)) ]
 
 -- What has been put in the place of its like can't be told apart.
 pub unchanged : {A B : Type 0} (f : A → B) (xs ys : List A) (i : ℕ) (x y : A) → slice_get xs i ≡ Some x → ys ≡ slice_set xs i y → f y ≡ f x → map f ys ≡ map f xs
@@ -33,17 +26,17 @@ pub seen_born : {A B : Type 0} (f : A → B) (xs ys : List A) (i : ℕ) (y : A) 
 seen_born f xs ys i y born now = ap (map f) now ∙ map-append f (slice_set xs i y) (option_to_list born) ∙ ap (λ zs. zs ++ map f (option_to_list born)) (map-set f xs i y)
 
 seen_with : {A B : Type 0} (f : A → B) (xs : List A) (i : ℕ) (y z : A) → map f (slice_set xs i y ++ z ∷ []) ≡ slice_set (map f xs) i (f y) ++ f z ∷ []
-seen_with f xs i y z = map-append f (slice_set xs i y) (z ∷ []) ∙ ap (λ ys. ys ++ f z ∷ []) (map-set f xs i y)
+seen_with f xs i y z = seen_born f xs (slice_set xs i y ++ z ∷ []) i y (Some z) refl
 
 -- as many seats are seen as there are workers and chairs
 pub seats_length : (vs : List Visible) (seats : List Chair) → length vs ≡ length seats → length (seats_seen vs seats) ≡ length vs
 seats_length [] seats h = refl
 seats_length (v ∷ vs) [] h = sym h
-seats_length (v ∷ vs) (seat ∷ seats) h = ap suc (seats_length vs seats (suc_same (length vs) (length seats) h))
+seats_length (v ∷ vs) (seat ∷ seats) h = ap suc (seats_length vs seats (omega (arith, h)))
 
 -- A step after which there are as many seats makes no worker.
 none_made : (c : Configuration) (me : Own) (s s' : Common) (i : ℕ) (e : Event) (choice : Choice) → s' ≡ common_after c me s i e choice → length s'.seats ≡ length s.seats → (made_by s e ≡ []) × (newcomers c e ≡ [])
-none_made = grind (arith, not_longer, length-append)
+none_made = grind (arith, length-append)
 
 -- WHAT AN EXECUTOR IS, part by part
 
@@ -76,28 +69,13 @@ module _ {B : Type 0} where
   owned_more : (more : Bool) (n m : ℕ) (s s' : Shared B) → AreOwned n s → n ≤ m → ((j : ℕ) → m ≤ j → SparesBy more j s s') → AreOwned m s'
   owned_more more n m s s' were grows spares =
       record {
-        owned = λ k r there.
-            ⊎_elim
-            (λ (within : r.shown.worker < m). within)
-            (λ (past : m ≤ r.shown.worker).
+        owned = λ k r there. still_below n m r.shown.worker grows (λ past.
             let was = (spares r.shown.worker past).records_only k r there refl in
-            let within = were.owned k was.0 was.1 in
-            let same : r.shown.worker ≡ was.0.shown.worker = ap (λ (x : Record). x.shown.worker) was.2.kept in
-            omega (arith, within, same, grows))
-            (cases_lt r.shown.worker m);
-        asleep = λ k z there.
-            ⊎_elim
-            (λ (within : z.shown.worker < m). within)
-            (λ (past : m ≤ z.shown.worker).
+            subst (λ j. j < n) (sym (ap (λ (x : Record). x.shown.worker) was.2.kept)) (were.owned k was.0 was.1));
+        asleep = λ k z there. still_below n m z.shown.worker grows (λ past.
             let was = (spares z.shown.worker past).sleepers_only k z there refl in
-            let within = were.asleep k was.0 was.1 in
-            let same : z.shown.worker ≡ was.0.shown.worker = ap (λ (x : SleeperRecord). x.shown.worker) was.2.kept in
-            omega (arith, within, same, grows))
-            (cases_lt z.shown.worker m);
+            subst (λ j. j < n) (sym (ap (λ (x : SleeperRecord). x.shown.worker) was.2.kept)) (were.asleep k was.0 was.1));
       }
-
-  pub owned_in : (c : Core B) → Stands c → AreOwned (length c.workers.items) c.shared
-  owned_in c stands = record { owned = stands.owned; asleep = stands.asleep }
 
   pub stands_worked : (c d : Core B) (i : ℕ) (w w' : Worker) → Stands c → slice_get c.workers.items i ≡ Some w → d.workers.items ≡ slice_set c.workers.items i w' → d.callers ≡ c.callers
       → w'.index ≡ w.index → Sound w' d.shared → Beside w c.shared w' d.shared → Stands d
@@ -107,7 +85,7 @@ module _ {B : Type 0} where
       let within = slice_get_within c.workers.items i w was in
       let then : StandTogether (slice_set c.workers.items i w') c.callers.items d.shared = worker_stepped c.workers.items c.callers.items c.shared stands.together i w w' d.shared was index sound beside in
       let owned : AreOwned (length d.workers.items) d.shared =
-      owned_more false (length c.workers.items) (length d.workers.items) c.shared d.shared (owned_in c stands) (omega (arith, many))
+      owned_more false (length c.workers.items) (length d.workers.items) c.shared d.shared (record { owned = stands.owned; asleep = stands.asleep }) (omega (arith, many))
       (λ j past. beside.spares j (λ same. omega (arith, same, past, many, within, mine))) in
       grind arith
 
@@ -120,7 +98,7 @@ module _ {B : Type 0} where
       let within = slice_get_within c.workers.items i w was in
       let then : StandTogether (slice_set c.workers.items i w' ++ v ∷ []) c.callers.items d.shared = worker_born c.workers.items c.callers.items c.shared stands.together i w w' v d.shared e was index sound beside in
       let owned : AreOwned (length d.workers.items) d.shared =
-      owned_more true (length c.workers.items) (length d.workers.items) c.shared d.shared (owned_in c stands) (omega (arith, many))
+      owned_more true (length c.workers.items) (length d.workers.items) c.shared d.shared (record { owned = stands.owned; asleep = stands.asleep }) (omega (arith, many))
       (λ j past. beside.spares j (λ same. omega (arith, same, past, many, within, mine))) in
       grind arith
 
@@ -165,7 +143,7 @@ module _ {B : Type 0} where
       let many : length d.workers.items ≡ length c.workers.items = ap (λ xs. length xs.items) workers in
       let then : StandTogether c.workers.items (slice_set c.callers.items j x') d.shared = caller_stepped c.workers.items c.callers.items c.shared stands.together j x x' d.shared was sound beside in
       let owned : AreOwned (length d.workers.items) d.shared =
-      owned_more false (length c.workers.items) (length d.workers.items) c.shared d.shared (owned_in c stands) (omega (arith, many)) (λ k past. beside.spares k) in
+      owned_more false (length c.workers.items) (length d.workers.items) c.shared d.shared (record { owned = stands.owned; asleep = stands.asleep }) (omega (arith, many)) (λ k past. beside.spares k) in
       grind (arith, length-set)
 
   -- what stands after a step of no party that keeps what is sound

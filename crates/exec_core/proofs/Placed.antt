@@ -1,20 +1,15 @@
 -- Each worker and each caller of an executor is at a place where it may be, by what holds of each worker and of all parties
 -- together. The law that no wake is lost rests on that.
-use Rattle.std.proofs.Common.{◌≡◌, ℕ, suc, ◌+◌, ◌<◌, ◌≤◌, Bool, true, false, not, List, [], ◌∷◌, ◌++◌, length, map, slice_get, Option, Some, None, option_map, is_some, nat_lt, refl, sym, ap, subst, ◌∙◌, ⊎_elim, arith}
-use Rattle.std.proofs.lemmas.{Bool.{or_from, not_from_true, cases_lt, false≢true, true≢false, false_from_ne_true, true_from_ne_false, lt-ltb, ltb-true, not-true}, List.{length-map}}
+use Rattle.std.proofs.{Common.{◌≡◌, ℕ, suc, ◌+◌, ◌<◌, ◌≤◌, Bool, true, false, not, List, [], ◌∷◌, ◌++◌, length, map, slice_get, Option, Some, None, option_map, is_some, nat_lt, refl, sym, ap, subst, ◌∙◌, ⊎_elim, arith}, lemmas.{Bool.{or_from, not_from_true, cases_lt, false≢true, true≢false, false_from_ne_true, true_from_ne_false, lt-ltb, ltb-true, not-true}, List.length-map}}
+use Rattle.exec_machine.specs.{declared.config.Configuration.Configuration, Progress.{Plan, is_runnable}, Tests.{has_ended, is_open}, World.Task}
 use Rattle.exec_words.specs.{Queue.Queue, Reserved.Reserved}
 use Rattle.exec_task.specs.{Phases.is_polled, declared.{body.Said.Said, runnable.Runnable.Runnable, task.Phase.Phase}}
-use Rattle.exec_machine.specs.{declared.{config.Configuration.Configuration}, Progress.{Plan, is_runnable}, Tests.{has_ended, is_open}, World.{Task}}
-use Rattle.exec_moves.specs.{declared.{handing.{CallPlace.CallPlace}, idling.Stay.Stay, place.{InClosing.InClosing, Place.Place}}, Call.{CallDesk, no_call}, Plays.{Playing, caller_of, desk_of as desk_at}}
-use Rattle.exec_parts.specs.{declared.parts.{seat.Seat.Seat as Chair, task_slot.TaskSlot.TaskSlot, worker.Worker.Worker}, Phased.{closes_at, closing_in, has_shut, is_complete, root_over}, Spots.Spot, View.{Visible, desk_of, inbox_at, message_of, phase_seen, polls_seen, queue_at, task_seen, tasks_of, visible, word_at}}
-use Rattle.exec_invariants.specs.{Drained.{HaveLeft, IsBefore, in_set}, Holding.Mail, Places.{begins_at, hands_on_at, has_loot_at, is_pooled_at, polled_in}, Sound.{AreHome, HasBatch, HasQueue, IsInHand, IsLoot, IsRunnable, one_of, root_in_hand}}
-use Rattle.exec_parts.proofs.Facts.{same_Some}
-use Rattle.exec_invariants.proofs.{SparedRecord.there_within}
+use Rattle.exec_moves.specs.{declared.{handing.CallPlace.CallPlace, place.{InClosing.InClosing, Place.Place}}, Call.{CallDesk, no_call}, Plays.Playing}
+use Rattle.exec_rest.specs.{AtRest.{IsPlaced, is_end, is_fed, is_idle, stays_closing}, Places.{is_abed, is_in_call}}
+use Rattle.exec_parts.{specs.{declared.parts.{seat.Seat.Seat as Chair, task_slot.TaskSlot.TaskSlot, worker.Worker.Worker}, Phased.{closes_at, closing_in, has_shut, is_complete, root_over}, Spots.Spot, View.{Visible, desk_of, inbox_at, message_of, phase_seen, polls_seen, queue_at, task_seen, tasks_of, visible, word_at}}, proofs.Facts.same_Some}
+use Rattle.exec_invariants.{specs.{Drained.{HaveLeft, IsBefore, in_set}, Holding.Mail, Places.{begins_at, hands_on_at, has_loot_at, is_pooled_at, polled_in}, Sound.{AreHome, HasBatch, HasQueue, IsInHand, IsLoot, IsRunnable, one_of, root_in_hand}}, proofs.{SparedRecord.there_within, Lined.unmapped}}
 use Rattle.exec_polling.specs.{declared.caller.Caller.Caller, Calling.{call_of, desk_of_caller, hands_on_in}}
-use Rattle.exec_steps.specs.Together.{all_have}
-use Rattle.exec_rest.specs.{AtRest.{IsPlaced, is_end, is_fed, is_idle, stays_closing}, Places.{is_abed, is_in_call}, Rested.{IsLaidOut, place_at}}
-use Rattle.exec_core.specs.{Lift.{Stands, Shows, playing}, declared.executor.Core.Core}
-use Rattle.exec_core.proofs.{GivenWorkers.{Sits, as_many_seats, by_one, by_worker}, Lifting.suc_same, QueuedOnce.slot_of}
+use Rattle.exec_core.{specs.{Lift.{Stands, Shows, playing}, declared.executor.Core.Core}, proofs.GivenParts.{Sits, as_many_seats, by_one, by_worker, all_have}}
 
 -- WHAT A PLACE SAYS
 
@@ -24,8 +19,7 @@ fed_is_pooled = grind arith
 
 -- a worker that is closing stays so
 closes_there : (p : Place) → stays_closing p ≡ true → closes_at p ≡ true
-closes_there (Place.RingWait y Stay.Closing) h = refl
-closes_there _ h = absurd (false≢true h)
+closes_there = grind arith
 
 -- The closing is at its end at one place alone.
 abbrev ends : Option InClosing → Bool
@@ -47,32 +41,26 @@ idle_queue = grind arith
 
 -- nor has a caller that is in no call
 free_hand : (p : CallPlace) (hand : Option Runnable) → is_in_call p ≡ false → IsInHand None (hands_on_in p) hand → hand ≡ None
-free_hand CallPlace.Nothing hand h held = held
-free_hand _ hand h held = absurd (true≢false h)
+free_hand = grind arith
 
 -- at its end it takes no mail any more, and its root is over
 end_shut : (p : Place) → is_end p ≡ true → has_shut (closes_at p) (closing_in p) ≡ true
-end_shut (Place.Closing InClosing.End) h = refl
-end_shut _ h = absurd (false≢true h)
+end_shut = grind arith
 
 end_batch : (p : Place) (batch : List Mail) → is_end p ≡ true → HasBatch p batch → batch ≡ []
-end_batch (Place.Closing InClosing.End) batch h it = it refl
-end_batch _ batch h it = absurd (false≢true h)
+end_batch = grind arith
 
 end_over : (p : Place) → is_end p ≡ true → root_over (closes_at p) (closing_in p) ≡ true
-end_over (Place.Closing InClosing.End) h = refl
-end_over _ h = absurd (false≢true h)
+end_over = grind arith
 
 -- A TASK that is to be polled or in a poll; or that is over
 
 module _ {B : Type 0} where
   going_on : (phase : Phase B) (i : ℕ) → is_runnable (phase_seen phase i) ≡ true → is_complete phase ≡ false
-  going_on Phase.Complete i runs = absurd (false≢true runs)
-  going_on _ i runs = refl
+  going_on = grind arith
 
   over_for_good : (phase : Phase B) (i : ℕ) → is_complete phase ≡ true → is_runnable (phase_seen phase i) ≡ false
-  over_for_good Phase.Complete i over = refl
-  over_for_good _ i over = absurd (false≢true over)
+  over_for_good = grind arith
 
   -- that of a root is in the flag, where its worker sleeps
   abed_flag : (p : Place) (root : ℕ) (hand flag : Option Runnable) (slot : TaskSlot B) → is_abed p ≡ true → IsRunnable (one_of flag (root_in_hand (begins_at p) root hand)) slot
@@ -89,7 +77,7 @@ module _ {B : Type 0} where
 polls_length : (vs : List Visible) (seats : List Chair) → length vs ≡ length seats → length (polls_seen vs seats) ≡ length seats
 polls_length [] seats h = h
 polls_length (v ∷ vs) [] h = refl
-polls_length (v ∷ vs) (seat ∷ seats) h = ap suc (polls_length vs seats (suc_same (length vs) (length seats) h))
+polls_length (v ∷ vs) (seat ∷ seats) h = ap suc (polls_length vs seats (omega (arith, h)))
 
 module _ {B : Type 0} (c : Core B) where
   -- the task whose home is worker j is its root
@@ -128,30 +116,6 @@ module _ {B L : Type 0} (left : B → L) (spot : L → Option Said → Spot) (p 
   abbrev seats : List Chair
   seats = c.shared.seats.items
 
-  -- the workers of the pool are the first
-  pool_is : (i : ℕ) (chair : Chair) → slice_get seats i ≡ Some chair → chair.pool ≡ nat_lt i c.shared.config.workers
-  pool_is i chair there = stands.together.whole.in_pool i chair there
-
-  laid_out : IsLaidOut k shown
-  laid_out =
-      let many = sym (as_many_seats left spot p c stands) in
-      let chairs = sym stands.together.seats ∙ many in
-      record {
-        desks = length-map workers desk_of ∙ many;
-        queues = length-map seats queue_at ∙ chairs;
-        words = length-map seats word_at ∙ chairs;
-        polls = polls_length (map visible workers) seats (length-map workers visible ∙ stands.together.seats) ∙ chairs;
-        boxes = length-map seats inbox_at ∙ chairs;
-        callers = length-map c.callers.items desk_of_caller ∙ sym (length-map c.callers.items (λ (y : Caller). call_of y.place));
-        bits = stands.together.whole.set;
-        some = by_worker left spot p c stands k 0 (λ d me seat q m. seat.pool ≡ true) (λ past. absurd (omega (arith, past, stands.some)))
-            (λ w chair it. pool_is 0 chair it.there ∙ lt-ltb 0 c.shared.config.workers it.sound.config.workers);
-        pool = λ i. by_worker left spot p c stands k i (λ d me seat q m. seat.pool ≡ true → i < 64) (λ past h. absurd (false≢true h))
-            (λ w chair it h.
-            let less = ltb-true i c.shared.config.workers (sym (pool_is i chair it.there) ∙ h) in
-            omega (arith, less, it.sound.config.few));
-      }
-
   -- Where the root of a worker is to be polled, or in a poll, the worker isn't at its end, and has it in its flag where it sleeps.
   root_of : (t j : ℕ) (slot : TaskSlot B) → slice_get c.shared.tasks.items t ≡ Some slot → slot.home ≡ Some j → is_runnable (phase_seen slot.cell.phase slot.poller) ≡ true
       → (w : Worker) (chair : Chair) → Sits c j w chair → (is_end w.place ≡ false) × (is_abed w.place ≡ true → is_some w.root_ready ≡ true)
@@ -175,9 +139,26 @@ module _ {B L : Type 0} (left : B → L) (spot : L → Option Said → Spot) (p 
   placed : IsPlaced k shown
   placed =
       record {
-        laid = laid_out;
+        laid =
+            let many = sym (as_many_seats left spot p c stands k) in
+            let chairs = sym stands.together.seats ∙ many in
+            record {
+              desks = length-map workers desk_of ∙ many;
+              queues = length-map seats queue_at ∙ chairs;
+              words = length-map seats word_at ∙ chairs;
+              polls = polls_length (map visible workers) seats (length-map workers visible ∙ stands.together.seats) ∙ chairs;
+              boxes = length-map seats inbox_at ∙ chairs;
+              callers = length-map c.callers.items desk_of_caller ∙ sym (length-map c.callers.items (λ (y : Caller). call_of y.place));
+              bits = stands.together.whole.set;
+              some = by_worker left spot p c stands k 0 (λ d me seat q m. seat.pool ≡ true) (λ past. absurd (omega (arith, past, stands.some)))
+                  (λ w chair it. stands.together.whole.in_pool 0 chair it.there ∙ lt-ltb 0 c.shared.config.workers it.sound.config.workers);
+              pool = λ i. by_worker left spot p c stands k i (λ d me seat q m. seat.pool ≡ true → i < 64) (λ past h. absurd (false≢true h))
+                  (λ w chair it h.
+                  let less = ltb-true i c.shared.config.workers (sym (stands.together.whole.in_pool i chair it.there) ∙ h) in
+                  omega (arith, less, it.sound.config.few));
+            };
         feeds = λ i. by_worker left spot p c stands k i (λ d me seat q m. is_fed d.place ≡ true → seat.pool ≡ true) (λ past h. absurd (false≢true h))
-            (λ w chair it h. pool_is i chair it.there ∙ sym (ap (λ n. nat_lt n c.shared.config.workers) it.index) ∙ sym it.sound.role.pool ∙ it.sound.pooled (fed_is_pooled w.place h));
+            (λ w chair it h. stands.together.whole.in_pool i chair it.there ∙ sym (ap (λ n. nat_lt n c.shared.config.workers) it.index) ∙ sym it.sound.role.pool ∙ it.sound.pooled (fed_is_pooled w.place h));
         stays = λ i. by_worker left spot p c stands k i (λ d me seat q m. is_open seat.phase ≡ true → stays_closing d.place ≡ false) (λ past opened. refl)
             (λ w chair it opened. false_from_ne_true (stays_closing w.place)
             (λ closing. true≢false (sym opened ∙ (it.sound.phased chair it.mine).opened ∙ ap not (closes_there w.place closing))));
@@ -188,12 +169,26 @@ module _ {B L : Type 0} (left : B → L) (spot : L → Option Said → Spot) (p 
             (λ w chair it h. (ap (option_map (λ (r : Runnable). r.task.0)) (idle_hand w.place w.hand h it.sound.hand), ap tasks_of (idle_loot w.place w.loot h it.sound.loot)));
         aside = λ i. by_worker left spot p c stands k i (λ d me seat q m. is_idle d.place ≡ true → q.held ≡ []) (λ past h. refl)
             (λ w chair it h. ap tasks_of (idle_queue w.place chair.queue h (it.sound.queue chair it.mine)));
-        calls = by_caller;
+        calls = λ j.
+            by_one desk_of_caller c.callers.items j no_call (λ (d : CallDesk). is_in_call d.place ≡ false → d.hand ≡ None) (λ h. refl)
+            (λ y there h. ap (option_map (λ (r : Runnable). r.task.0)) (free_hand y.place y.hand h (stands.together.calls j y there).hand));
         mail = λ i. by_worker left spot p c stands k i (λ d me seat q m. seat.inbox ≡ d.batch ++ m) (λ past. refl) (λ w chair it. refl);
         mute = λ i. by_worker left spot p c stands k i (λ d me seat q m. is_end d.place ≡ true → (d.batch ≡ []) × (m ≡ [])) (λ past h. absurd (false≢true h))
             (λ w chair it h.
             (ap (map message_of) (end_batch w.place w.batch.values h it.sound.batch), ap (map message_of) ((stands.together.whole.pool.mail i chair it.there).empty (shut_at_end i w chair it h))));
-        roots = by_root;
+        roots = λ t it j there at_home runnable.
+            let found = unmapped (task_seen left spot) c.shared.tasks.items t it there in
+            let slot : TaskSlot B = found.0 in
+            let home : slot.home ≡ Some j = ap (λ (u : Task). u.home) found.2 ∙ at_home in
+            let runs : is_runnable (phase_seen slot.cell.phase slot.poller) ≡ true = ap (λ (u : Task). is_runnable u.phase) found.2 ∙ runnable in
+            let zero_is = there_within workers 0 stands.some in
+            let homes = (stands.together.sound 0 zero_is.0 zero_is.1).1.homes in
+            let within : j < length seats = home_within c.shared.config.workers (length seats) c.shared.tasks.items homes t j slot found.1 home in
+            let many = stands.together.seats in
+            let desks = length-map workers desk_of in
+            let its = by_worker left spot p c stands k j (λ d me seat q m. (is_end d.place ≡ false) × (is_abed d.place ≡ true → d.root_ready ≡ true)) (λ past. absurd (omega (arith, past, many, within)))
+            (root_of t j slot found.1 home runs) in
+            (omega (arith, within, many, desks), its.0, its.1);
         zero = by_worker left spot p c stands k 0 (λ d me seat q m. is_open seat.phase ≡ true → c.shared.set.closed ≡ false) (λ past opened. absurd (false≢true opened))
             (λ w chair it opened.
             let phased = it.sound.phased chair it.mine in
@@ -202,33 +197,12 @@ module _ {B L : Type 0} (left : B → L) (spot : L → Option Said → Spot) (p 
             (λ d me seat q m. seat.pool ≡ true → has_ended seat.phase ≡ true → (t : ℕ) (it : Task) → slice_get shown.world.common.tasks t ≡ Some it → it.home ≡ None → is_runnable it.phase ≡ false)
             (λ past pool. absurd (false≢true pool))
             (λ w chair sits pool ended t it there ordinary.
-            let found = slot_of (task_seen left spot) c.shared.tasks.items t it there in
+            let found = unmapped (task_seen left spot) c.shared.tasks.items t it there in
             let slot : TaskSlot B = found.0 in
             let shut = shut_at_end i w chair sits (ends_at i w chair sits ended) in
             sym (ap (λ (u : Task). is_runnable u.phase) found.2)
             ∙ over_for_good slot.cell.phase slot.poller (all_over c stands i w chair sits pool shut t slot found.1 (ap (λ (u : Task). u.home) found.2 ∙ ordinary)));
       }
-    where
-      by_caller : (j : ℕ) → is_in_call (caller_of shown j).place ≡ false → (caller_of shown j).hand ≡ None
-      by_caller j =
-          by_one desk_of_caller c.callers.items j no_call (λ (d : CallDesk). is_in_call d.place ≡ false → d.hand ≡ None) (λ h. refl)
-          (λ y there h. ap (option_map (λ (r : Runnable). r.task.0)) (free_hand y.place y.hand h (stands.together.calls j y there).hand))
-
-      by_root : (t : ℕ) (it : Task) (j : ℕ) → slice_get shown.world.common.tasks t ≡ Some it → it.home ≡ Some j → is_runnable it.phase ≡ true
-          → (j < length shown.desks) × (is_end (place_at k shown j) ≡ false) × (is_abed (place_at k shown j) ≡ true → (desk_at k shown j).root_ready ≡ true)
-      by_root t it j there at_home runnable =
-          let found = slot_of (task_seen left spot) c.shared.tasks.items t it there in
-          let slot : TaskSlot B = found.0 in
-          let home : slot.home ≡ Some j = ap (λ (u : Task). u.home) found.2 ∙ at_home in
-          let runs : is_runnable (phase_seen slot.cell.phase slot.poller) ≡ true = ap (λ (u : Task). is_runnable u.phase) found.2 ∙ runnable in
-          let zero_is = there_within workers 0 stands.some in
-          let homes = (stands.together.sound 0 zero_is.0 zero_is.1).1.homes in
-          let within : j < length seats = home_within c.shared.config.workers (length seats) c.shared.tasks.items homes t j slot found.1 home in
-          let many = stands.together.seats in
-          let desks = length-map workers desk_of in
-          let its = by_worker left spot p c stands k j (λ d me seat q m. (is_end d.place ≡ false) × (is_abed d.place ≡ true → d.root_ready ≡ true)) (λ past. absurd (omega (arith, past, many, within)))
-          (root_of t j slot found.1 home runs) in
-          (omega (arith, within, many, desks), its.0, its.1)
 
 module _ {B L : Type 0} (left : B → L) (runs : L → Plan → Option ℕ → Type 0) (holds : L → Option Said → List ℕ) (spot : L → Option Said → Spot) where
   pub are_placed : (p : Plan) (c : Core B) (x : Playing) → Stands c → Shows left runs holds spot p c x → (k : Configuration) → IsPlaced k x

@@ -88,73 +88,59 @@ impl Config {
     }
 
     /// The same with so many workers in the pool.
-    pub fn with_worker_threads(self, worker_threads: usize) -> Self
+    pub fn with_worker_threads(mut self, worker_threads: usize) -> Self
         ensures { result ≡ record self { worker_threads = worker_threads } }
     {
-        Config {
-            worker_threads,
-            ..self
-        }
+        self.worker_threads = worker_threads;
+        self
     }
 
     /// The same with a global look every so many picks.
-    pub fn with_global_queue_interval(self, global_queue_interval: u32) -> Self
+    pub fn with_global_queue_interval(mut self, global_queue_interval: u32) -> Self
         ensures { result ≡ record self { global_queue_interval = global_queue_interval } }
     {
-        Config {
-            global_queue_interval,
-            ..self
-        }
+        self.global_queue_interval = global_queue_interval;
+        self
     }
 
     /// The same with rings that are set up so.
-    pub fn with_ring_config(self, ring_config: RingConfig) -> Self
+    pub fn with_ring_config(mut self, ring_config: RingConfig) -> Self
         ensures { result ≡ record self { ring_config = ring_config } }
     {
-        Config {
-            ring_config,
-            ..self
-        }
+        self.ring_config = ring_config;
+        self
     }
 
     /// The same with workers that spin so before they sleep.
-    pub fn with_idle_spinner(self, idle_spinner: SpinnerConfig) -> Self
+    pub fn with_idle_spinner(mut self, idle_spinner: SpinnerConfig) -> Self
         ensures { result ≡ record self { idle_spinner = idle_spinner } }
     {
-        Config {
-            idle_spinner,
-            ..self
-        }
+        self.idle_spinner = idle_spinner;
+        self
     }
 
     /// The same with so many nanoseconds for a connect.
-    pub fn with_connect_timeout(self, connect_timeout: u64) -> Self
+    pub fn with_connect_timeout(mut self, connect_timeout: u64) -> Self
         ensures { result ≡ record self { connect_timeout = connect_timeout } }
     {
-        Config {
-            connect_timeout,
-            ..self
-        }
+        self.connect_timeout = connect_timeout;
+        self
     }
 
     /// The same with so many nanoseconds for a read or a write of a socket.
-    pub fn with_read_write_timeout(self, read_write_timeout: u64) -> Self
+    pub fn with_read_write_timeout(mut self, read_write_timeout: u64) -> Self
         ensures { result ≡ record self { read_write_timeout = read_write_timeout } }
     {
-        Config {
-            read_write_timeout,
-            ..self
-        }
+        self.read_write_timeout = read_write_timeout;
+        self
     }
 
     /// The same with read buffers of so many bytes.
-    pub fn with_read_buffer_size(self, read_buffer_size: usize) -> Self
+    pub fn with_read_buffer_size(mut self, read_buffer_size: usize) -> Self
         ensures { result ≡ record self { read_buffer_size = read_buffer_size } }
     {
-        Config {
-            read_buffer_size,
-            ..self
-        }
+        self.read_buffer_size = read_buffer_size;
+        self
     }
 
     /// How many workers the pool has.

@@ -6,8 +6,7 @@ ghost use Rattle.exec_outcomes.specs.declared.outcome.Kind.TheVariants as kind;
 ghost use Rattle.exec_outcomes.specs.declared.outcome.Outcome.TheVariants.{Success, Failure};
 ghost use Rattle.exec_machine.specs.declared.state.RequestPhase.TheVariants as phase;
 ghost use Rattle.exec_machine.specs.declared.state.TaskPhase.TheVariants as task;
-ghost use Rattle.exec_core.specs.Examples.{bare_desk, flagged, holding, of_open, task_zero, with_closed_set, with_task};
-ghost use Rattle.exec_core.specs.{Once.QueuesOnce, Turns.{TakeTurns, has_permit}};
+ghost use Rattle.exec_core.specs.{Examples.{bare_desk, flagged, holding, of_open, task_zero, with_closed_set, with_task}, Once.QueuesOnce, Turns.{TakeTurns, has_permit}};
 
 /// Which request has the permit of its open: one that is durable, and neither waits for the permit nor is over.
 pub fn permits()

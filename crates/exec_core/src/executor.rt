@@ -39,6 +39,7 @@ impl<B: Scripted + Drop> Core<B> {
     /// An executor whose workers' roots run these bodies, with so many open files and sockets, where so many looks of a
     /// spinning worker take a microsecond. An `Err` comes only for want of memory. The caller must have a configuration
     /// whose parts are in their ranges, as many bodies as workers, and a plan that the bodies begin.
+    #[tactic(auto, using(crate::proofs::Beginning::in_range))]
     pub fn new(
         alloc: Global,
         config: &Config,
@@ -83,7 +84,7 @@ impl<B: Scripted + Drop> Core<B> {
 
     /// Whether the step may be taken. It can be asked of each executor that `new` or `apply` left, also of a spent one, which
     /// answers as before the step that got no memory.
-    #[tactic(auto, using(crate::proofs::Enabling::enabled_as))]
+    #[tactic(auto, using(crate::proofs::Applying::enabled_as))]
     pub fn enabled(&self, action: Action) -> bool
         requires asked { CanBeAsked self.now }
         ensures enabled { (p : Plan) → result ≡ is_enabled (world B.left B.spot p self.now).common action }
@@ -158,6 +159,7 @@ impl<B: Scripted + Drop> Core<B> {
     }
 
     /// Whether the kernel has the operation and may give this result.
+    #[tactic(auto, using(crate::proofs::Taking::item_there, crate::proofs::Taking::item_missing))]
     fn may_land(&self, request: usize, given: OpResult) -> bool
         requires asked { CanBeAsked self.now }
         ensures { result ≡ may_land_in (slice_get self.now.shared.requests.items request) given }
@@ -173,6 +175,7 @@ impl<B: Scripted + Drop> Core<B> {
     /// requests or sleepers (below 2^32), or of the peers of a listener (below 2^64). After an `Err` the executor stands as
     /// before the step, and is spent. The caller must know that it isn't spent, and that its bodies perform a plan, in
     /// which the body that is carried begins the script of that number.
+    #[tactic(auto, using(crate::proofs::Taking::asked))]
     pub fn apply(
         &mut self,
         alloc: Global,
@@ -202,6 +205,7 @@ impl<B: Scripted + Drop> Core<B> {
     }
 
     /// Takes a step that may be taken. Without memory for it the executor is spent.
+    #[tactic(auto, using(crate::proofs::Taking::lines_taken))]
     fn take(&mut self, alloc: Global, action: Action, body: Option<B>) -> Result<Event, AllocError>
         requires ready { (p : Plan) × IsReady B.left B.runs B.holds p self.old × Carries B.left B.runs B.holds B.spot B.name_of p action body }
         requires enabled { may_take self.old action ≡ true }
@@ -226,6 +230,7 @@ impl<B: Scripted + Drop> Core<B> {
     }
 
     /// A caller begins to spawn a task of this body. Without memory for it the executor is spent.
+    #[tactic(auto, using(crate::proofs::Taking::caller_read))]
     fn spawn(
         &mut self,
         alloc: Global,
@@ -247,6 +252,7 @@ impl<B: Scripted + Drop> Core<B> {
     }
 
     /// A caller begins to wake a task.
+    #[tactic(auto, using(crate::proofs::Taking::caller_read))]
     fn wake(&mut self, caller: usize, task: usize) -> Event
         requires stands { Stands self.old }
         requires enabled { may_take self.old (Action.Wake caller task) ≡ true }
@@ -256,6 +262,7 @@ impl<B: Scripted + Drop> Core<B> {
     }
 
     /// A caller goes on with its call.
+    #[tactic(auto, using(crate::proofs::Taking::caller_read))]
     fn go_on(&mut self, caller: usize) -> Event
         requires stands { Stands self.old }
         requires enabled { may_take self.old (Action.GoOn caller) ≡ true }
@@ -265,6 +272,7 @@ impl<B: Scripted + Drop> Core<B> {
     }
 
     /// A step of this worker, which may take one. Without memory for it the executor is spent.
+    #[tactic(auto, using(crate::proofs::Taking::worker_read))]
     fn work(&mut self, alloc: Global, worker: usize) -> Result<Event, AllocError>
         requires ready { (p : Plan) × IsReady B.left B.runs B.holds p self.old }
         requires enabled { may_take self.old (Action.Work worker) ≡ true }

@@ -114,6 +114,7 @@ pub(crate) fn first_workers(
 
 /// The worker of the pool of this number, whose root is to be polled with this runnable. `Err` only for want of memory. The
 /// caller must have a configuration in its ranges, and a number below 64.
+#[tactic(auto, using(crate::proofs::Beginning::may_begin, crate::proofs::Beginning::in_range))]
 fn first_worker(
     alloc: Global,
     configuration: &Configuration,

@@ -1,11 +1,10 @@
 -- The room that an admission makes, and gives up again.
-use Rattle.std.proofs.Common.{◌≡◌, ℕ, ◌+◌, ◌*◌, ◌≤◌, Bool, true, false, List, [], ◌∷◌, length, Option, Some, None, Result, Ok, Err, refl, sym, ap, subst, arith, eqb, cond, ◌∙◌}
+use Rattle.std.proofs.Common.{◌≡◌, ℕ, ◌+◌, ◌*◌, ◌≤◌, Bool, true, false, List, [], ◌∷◌, length, Option, Result, refl, ap, subst, arith}
 use Rattle.exec_lists.proofs.{Counting.{flying_few, pending_is}, Shifts.few}
 use Rattle.std.specs.Prelude.{is_some, is_err, count_by, IsSomeAnd, OnOk, OnErr}
-use Rattle.std.proofs.lemmas.Bool.{false≢true}
 use Rattle.std.proofs.lemmas.List.Sums.{sum_by-cons}
-use Rattle.exec_base.specs.{Slab.Slab, declared.slab.{InsertError.{InsertError, TheVariants.{Full, NoMemory}}, Slot.Slot}}
-use Rattle.exec_ring.specs.{Kernels.Landing, Rings.{RingState, taken_places, fresh as fresh_ring}, Sockets.SocketState, Stores.{Same, Reserves, Releases, socket_of}, declared.store.Store.Store}
+use Rattle.exec_base.specs.{Slab.Slab, declared.slab.{InsertError.InsertError, Slot.Slot}}
+use Rattle.exec_ring.specs.{Kernels.Landing, Rings.{RingState, taken_places, fresh as fresh_ring}, Stores.{Same, Reserves, Releases}, declared.store.Store.Store}
 use Rattle.exec_time.specs.Wheel.{Wheel, fresh}
 use Rattle.exec_waiters.specs.{Events.IsTurnedDown, States.pending_count, declared.waiter.{Entry.Entry, Refused.Refused}}
 use Rattle.exec_waiters.proofs.Changes.{one_if}
@@ -14,17 +13,11 @@ use Rattle.exec_lists.specs.{Lists.no_lists, Listed.{counts, count_of}}
 use Rattle.exec_request.specs.{Windows.{cancel_window, wake_window}, declared.window.Window.Window}
 
 -- the windows of a cancel and of the wake poll want no room
-either_way : (b : Bool) (s : SocketState) → cond b s s ≡ s
-either_way true s = refl
-either_way false s = refl
-
 pub reserved_none : (user_data : ℕ) (a b : Store) → Reserves (cancel_window user_data) a b → Same a b
-reserved_none user_data a b one =
-    record { sockets = λ s. one.sockets s ∙ either_way (eqb s 0) (socket_of a s); files = one.files }
+reserved_none = grind arith
 
 pub reserved_wake : (a b : Store) → Reserves wake_window a b → Same a b
-reserved_wake a b one =
-    record { sockets = λ s. one.sockets s ∙ either_way (eqb s 0) (socket_of a s); files = one.files }
+reserved_wake = grind arith
 
 pub reserved_still : (w : Window) (a b c : Store) → Reserves w a b → Same b c → Reserves w a c
 reserved_still = grind arith
@@ -71,25 +64,21 @@ module _ {S F : Type 0} where
   -- A REFUSAL: rooms play no part in it
 
   roomless : (s : Slab (Entry S F)) (room : ℕ) (back : Refused S F) (e : InsertError (Refused S F)) → IsRefused (record s { room = room }) back e → IsRefused s back e
-  roomless s room back (Full v) is = (is.0, is.1, record { all_there = is.2.all_there; none_vacant = is.2.none_vacant })
-  roomless s room back (NoMemory v) is = is
+  roomless = grind arith
 
   pub refused_over : (d d' : Driving S F) (back : Refused S F) (e : InsertError (Refused S F)) → d' ≡ with_rooms d' d → IsRefused d'.requests back e → IsRefused d.requests back e
   refused_over d d' back e same is =
       roomless d.requests d'.requests.room back e (subst (λ (s : Slab (Entry S F)). IsRefused s back e) (ap (λ (m : Driving S F). m.requests) same) is)
 
   pub turned_down : (s : Slab (Entry S F)) (back : Refused S F) (e : InsertError (Refused S F)) → IsTurnedDown s back e → IsRefused s back e
-  turned_down s back (Full v) is = is
-  turned_down s back (NoMemory v) is = is.0
+  turned_down = grind arith
 
 -- a call that was right did what it says of that
 pub on_ok : {A E P : Type 0} (r : Result A E) → is_err r ≡ false → OnOk r P → P
-on_ok (Ok x) right then = then
-on_ok (Err e) right then = absurd (false≢true (sym right))
+on_ok = grind arith
 
 pub on_err : {A E P : Type 0} (r : Result A E) → is_err r ≡ true → OnErr r P → P
-on_err (Ok x) wrong then = absurd (false≢true wrong)
-on_err (Err e) wrong then = then
+on_err = grind arith
 
 -- a new wheel has nothing in it
 pub record IsUnused (w : Wheel) : Type 0 where
@@ -97,5 +86,4 @@ pub record IsUnused (w : Wheel) : Type 0 where
   pub idle : (t : ℕ) → w.active t ≡ 0
 
 pub unused : (slots : Option ℕ) (w : Wheel) (horizon tick now : ℕ) → IsSomeAnd slots (λ n. w ≡ fresh horizon tick now n) → IsUnused w
-unused (Some n) w horizon tick now is = record { drained = ap (λ (v : Wheel). v.ready) is; idle = λ t. ap (λ (v : Wheel). v.active t) is }
-unused None w horizon tick now is = absurd (is)
+unused = grind arith

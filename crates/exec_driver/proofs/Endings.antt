@@ -1,7 +1,7 @@
 -- A request that ends, or is cancelled, keeps a driver sound.
 use Rattle.std.proofs.Common.{◌≡◌, ℕ, ◌+◌, ◌<◌, ◌≤◌, true, false, [], ◌∷◌, length, Option, Some, None, refl, sym, ap, ◌∙◌, inr, arith, length-append}
 use Rattle.std.specs.Option.{IfSome}
-use Rattle.exec_driver.proofs.Words.{is_some, false≢true, Slab, value_at, written, Id, Account, Ended, asks_cancel, Wheel, told_by_finish, cancelled, changed, waiter_at, is_flying, pending_count, tick_in, Observer, Local, Forwarded, DetachedSync, Orphaned, Waiter, Entry, Pending, Ready, WaiterId, WaiterState, Active, CancelRequested, entry_of, one_if, Driving, request_at, is_queued, is_gated, is_unenrolled, is_enrolled, is_cancelled, without, IsSound, IsHeld, is_tick, is_unpermitted, is_undated, is_at_tick, may_cancel, count_of, Tells, Deferred, ended, cancelling, not-true, not-false}
+use Rattle.exec_driver.proofs.Words.{is_some, Slab, value_at, written, Id, Account, Ended, asks_cancel, Wheel, told_by_finish, cancelled, changed, waiter_at, is_flying, pending_count, tick_in, Observer, Local, Forwarded, DetachedSync, Orphaned, Waiter, Entry, Pending, Ready, WaiterId, WaiterState, CancelRequested, entry_of, one_if, Driving, request_at, is_queued, is_gated, is_unenrolled, is_enrolled, is_cancelled, without, IsSound, IsHeld, is_tick, is_unpermitted, is_undated, is_at_tick, may_cancel, count_of, Tells, Deferred, ended, cancelling, not-true, not-false}
 use Rattle.exec_lists.proofs.{Names.fewer_without, Counting.{OneChanged, same_written, one_written, one_removed, pending_is, flying_is}, Shifts.{Left, Kept, Joined, shifted, nowhere, room_for}}
 use Rattle.exec_request.specs.{Requests.output_of, declared.output.RequestOutput.RequestOutput}
 use Rattle.exec_time.specs.Wheel.{removed}
@@ -15,8 +15,7 @@ ticks_after = grind arith
 
 pub ready_after : (w : Wheel) (tick : Option ℕ) → (unscheduled w tick).ready ≡ w.ready
 unfolding removed
-ready_after w None = refl
-ready_after w (Some k) = refl
+ready_after = grind arith
 
 -- what stands in the wheel is active there
 pub active_there : (tick : Option ℕ) (n : ℕ → ℕ) → ((t : ℕ) → one_if (is_tick t tick) ≤ n t) → IfSome tick (λ t. 0 < n t)
@@ -24,8 +23,7 @@ active_there = grind arith
 
 -- who asked for a cancel
 state_of : (s : WaiterState) → asks_cancel s ≡ true → s ≡ CancelRequested
-state_of (Active tick) is = absurd (false≢true is)
-state_of CancelRequested is = refl
+state_of = grind arith
 
 module _ {S F : Type 0} where
   -- a request without an operation is there
@@ -44,12 +42,10 @@ module _ {S F : Type 0} where
     pub flies : w.in_flight ≡ true
 
   pub flying_there : (o : Option (Waiter S F)) → is_flying o ≡ true → IsFlying o
-  flying_there None is = absurd (false≢true is)
-  flying_there (Some w) is = record { w = w; is = refl; flies = is }
+  flying_there = grind arith
 
   pub pending_there : (o : Option (Waiter S F)) → is_some o ≡ true → is_flying o ≡ false → IsIdle o
-  pending_there None is idle = absurd (false≢true is)
-  pending_there (Some w) is idle = record { w = w; is = refl; idle = idle }
+  pending_there = grind arith
 
   -- what a change of a request is
   pub changed_is : (s : Slab (Entry S F)) (id : Id) (w : Waiter S F) (f : Waiter S F → Waiter S F) → waiter_at s id ≡ Some w → changed s id f ≡ written s id (Pending (f w))

@@ -1,11 +1,11 @@
--- How many entries a ring has once it was entered, or a completion was taken out.
+-- How many entries a ring has once it was entered, or a completion was taken out, and what an enter leaves of its
+-- submission queue.
 use Rattle.std.proofs.Common.{◌≡◌, ℕ, ◌+◌, ◌≤◌, true, false, List, [], ◌∷◌, ◌++◌, length, Some, refl, sym, ◌∙◌, arith, length-append}
 use Rattle.std.specs.Prelude.{fold}
-use Rattle.std.proofs.lemmas.List.Edits.{length-remove}
-use Rattle.std.proofs.lemmas.Option.{slice_get_within}
+use Rattle.std.proofs.lemmas.{List.Edits.length-remove, Option.slice_get_within}
 use Rattle.exec_driver.proofs.Words.{cond_both, false≢true, OpResult, wake_completion, Landing, landed, may_land, reaped, next_completion, flight_of, RingState, taken_places, Completion, Submission, is_control}
 use Rattle.exec_request.specs.declared.window.Opcode.{Opcode}
-use Rattle.exec_ring.specs.{Kernels.{woken, with_poll, taken_as, taken_in, all_taken, all_landed, MayAllLand, entered_with}}
+use Rattle.exec_ring.specs.{Kernels.{woken, with_poll, taken_as, taken_in, all_taken, all_landed, MayAllLand, entered_with, answer_of_enter}, declared.ring.Entered.TheVariants.{Taken, Busy}}
 
 -- a ring has at most so many entries more, and is the same ring
 pub record Within (s s' : RingState) (more : ℕ) : Type 0 where
@@ -56,3 +56,43 @@ less_reaped = grind arith
 
 pub no_wake : (c : Completion) → is_control c ≡ false → c ≡ wake_completion true → ⊥
 no_wake c operation same = false≢true (sym operation ∙ rw same refl)
+
+-- the kernel is as busy as it was, and its queue is as it was
+record IsFixed (s s' : RingState) : Type 0 where
+  pub busy : s'.busy ≡ s.busy
+  pub staged : s'.staged ≡ s.staged
+  pub size : s'.size ≡ s.size
+
+fixed : (s : RingState) → IsFixed s s
+fixed s = record { busy = refl; staged = refl; size = refl }
+
+fixed_both : (s t u : RingState) → IsFixed s t → IsFixed t u → IsFixed s u
+fixed_both s t u one other = record { busy = other.busy ∙ one.busy; staged = other.staged ∙ one.staged; size = other.size ∙ one.size }
+
+fixed_as : (k : Opcode) (s : RingState) (e : Submission) → IsFixed s (taken_as k s e)
+fixed_as = grind arith
+
+fixed_fold : (es : List Submission) (s : RingState) → IsFixed s (fold taken_in s es)
+fixed_fold [] s = fixed s
+fixed_fold (e ∷ es) s = fixed_both s _ _ (fixed_as e.window.kind s e) (fixed_fold es (taken_in s e))
+
+fixed_landed : (ls : List Landing) (s : RingState) → IsFixed s (all_landed ls s)
+fixed_landed [] s = fixed s
+fixed_landed (l ∷ ls) s = grind (arith, fixed_landed ls (landed s l.user_data l.result))
+
+-- An enter takes all entries, or none where the kernel was busy; it isn't busy after.
+pub record IsEntered (s s' : RingState) : Type 0 where
+  pub size : s'.size ≡ s.size
+  pub free : s'.busy ≡ false
+  pub taken : s.busy ≡ false → s'.staged ≡ []
+  pub left : s.busy ≡ true → s'.staged ≡ s.staged
+
+pub enters : (ls : List Landing) (s : RingState) → IsEntered s (entered_with ls s)
+enters = grind (arith, fixed_both, fixed_fold, fixed_landed, cond_both, false≢true)
+
+-- what an enter answers
+pub taken_answer : (s : RingState) (n : ℕ) → answer_of_enter s ≡ Taken n → s.busy ≡ false
+taken_answer = grind arith
+
+pub busy_answer : (s : RingState) → answer_of_enter s ≡ Busy → s.busy ≡ true
+busy_answer = grind arith

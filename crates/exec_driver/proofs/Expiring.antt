@@ -1,6 +1,6 @@
 -- Who is taken out of what is due, or of what is to be enrolled, leaves a driver as it should be.
-use Rattle.std.proofs.Common.{◌≡◌, ◌<◌, ◌≤◌, ◌+◌, ◌^◌, true, Ok, ℕ, List, [], ◌∷◌, length, Option, Some, None, refl, arith, ltb, Bool, ◌&&◌, cond}
-use Rattle.exec_driver.proofs.{Words.{false≢true, Slab, Wheel, moment_of, waiter_at, Waiter, Entry, WaiterId, Driving, is_unenrolled, is_enrolled, first_of, IsListed, IsHeld, tick_for, is_some, tick_of}, Granting.{IsUnset, unset_tells}, Stepping.first_in}
+use Rattle.std.proofs.Common.{◌≡◌, ◌<◌, ◌≤◌, ◌+◌, ◌^◌, Ok, ℕ, List, [], length, Option, Some, None, refl, arith, ltb, Bool, ◌&&◌, cond}
+use Rattle.exec_driver.proofs.{Words.{Slab, Wheel, moment_of, waiter_at, Waiter, Entry, WaiterId, Driving, is_unenrolled, is_enrolled, first_of, IsListed, IsHeld, tick_for, is_some, tick_of}, Granting.{IsUnset, unset_tells}, Stepping.{first_in, first_there}}
 use Rattle.exec_driver.specs.Steps.{tick_by}
 use Rattle.exec_time.specs.Wheel.{target_of}
 
@@ -13,8 +13,7 @@ target_tells w deadline now tick is = by_range _ _ _ tick w.current (w.current +
 
 module _ {S F : Type 0} where
   pub enrolled_is : (o : Option (Waiter S F)) → is_enrolled o ≡ is_some (tick_of o)
-  enrolled_is None = refl
-  enrolled_is (Some w) = refl
+  enrolled_is = grind arith
 
 by_target : (w : Wheel) (o : Option (Option ℕ)) (tick : ℕ) → tick_by w o ≡ Ok tick → (o ≡ Some (Some tick)) × (moment_of w tick < 2 ^ 64)
 by_target = grind arith
@@ -28,8 +27,7 @@ pub tick_tells : (w : Wheel) (deadline now tick : ℕ) → tick_for w deadline n
 tick_tells = grind (arith, by_target, target_of, target_tells)
 
 pub some_first : (ids : List WaiterId) (id : WaiterId) → first_of ids ≡ Some id → 0 < length ids
-some_first [] id is = absurd (cc)
-some_first (x ∷ ids) id is = omega arith
+some_first = grind arith
 
 module _ {S F : Type 0} where
   -- a change of what is due, and of the wheel but for what is active in it
@@ -42,9 +40,7 @@ module _ {S F : Type 0} where
     pub at : o ≡ Some w
     pub unset : IsUnset w
 
-  unset_by : (o : Option (Waiter S F)) → is_unenrolled o ≡ true → IsUnsetThere o
-  unset_by None is = absurd (false≢true is)
-  unset_by (Some w) is = record { w = w; at = refl; unset = unset_tells w is }
-
   pub unset_there : (s : Slab (Entry S F)) (ids : List WaiterId) (id : WaiterId) → first_of ids ≡ Some id → IsListed is_unenrolled s ids → IsUnsetThere (waiter_at s id.0)
-  unset_there s ids id first listed = unset_by (waiter_at s id.0) (first_in is_unenrolled s ids id first listed)
+  unset_there s ids id first listed =
+      let there = first_there is_unenrolled refl s ids id first listed in
+      record { w = there.0; at = there.1; unset = unset_tells there.0 (rw there.1 at (first_in is_unenrolled s ids id first listed)) }

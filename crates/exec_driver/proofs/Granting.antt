@@ -17,8 +17,7 @@ unfolding scheduled
 ready_scheduled w id tick = refl
 
 pub permit_there : (b : Bool) → (b && not true) ≡ false
-permit_there true = refl
-permit_there false = refl
+permit_there = grind arith
 
 -- a choice that is both is one
 pub same_some : {A : Type 0} (o : Option A) (x y : A) → o ≡ Some x → o ≡ Some y → x ≡ y

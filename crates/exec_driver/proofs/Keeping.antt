@@ -1,5 +1,5 @@
 -- Each call keeps a driver punctual: whose deadline stands in the wheel is due, or comes out at its tick.
-use Rattle.std.proofs.Common.{zero, suc, ◌≡◌, ◌⊎◌, ℕ, ◌<◌, Bool, true, false, cond, List, [], ◌∷◌, set, slice_get, Option, Some, None, refl, inl, inr, arith}
+use Rattle.std.proofs.Common.{zero, suc, ◌≡◌, ◌⊎◌, ℕ, ◌<◌, Bool, cond, List, [], ◌∷◌, set, slice_get, Option, Some, None, refl, inl, inr, arith}
 use Rattle.std.specs.Option.{IfSome}
 use Rattle.exec_driver.proofs.{Words.{Slab, value_at, written, TaskNo, Account, asks_cancel, cancelled, changed, waiter_in, tick_in, tick_of, Observer, Waiter, Entry, Pending, WaiterId, Driving, request_at, Ended, OpenState, cases_Bool}, Endings.one_changed, Serving.{keeps_one, keeps_punctual, like_unscheduled, eases_ended}}
 use Rattle.exec_lists.proofs.Counting.{OneChanged, one_written, one_removed}
@@ -56,8 +56,7 @@ module _ {S F : Type 0} where
   waked_punctual = grind (arith, value_at, seen_by_others)
 
   choose : (b : Bool) (d : Driving S F) (s s' : Slab (Entry S F)) → IsPunctual (record d { requests = s }) → IsPunctual (record d { requests = s' }) → IsPunctual (record d { requests = cond b s s' })
-  choose true d s s' one other = one
-  choose false d s s' one other = other
+  choose = grind arith
 
   pub forwarded_punctual : (d : Driving S F) (id : WaiterId) (sender : F) → IsPunctual d → IsPunctual (record d { requests = forwarded d.requests id.0 sender })
   forwarded_punctual = grind (arith, value_at, choose, seen_by_others, taken_away)

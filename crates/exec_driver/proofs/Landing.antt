@@ -1,10 +1,8 @@
 -- An operation that ends in a ring in memory keeps a driver as it should be.
-use Rattle.std.proofs.Common.{◌≡◌, ℕ, Bool, true, not, ◌&&◌, cond, Option, Some, None, Result, Ok, Err, refl, ap, inl, inr}
+use Rattle.std.proofs.Common.{◌≡◌, ℕ, Bool, true, ◌&&◌, cond, Option, Some, Result, Ok, Err, refl, ap, inl, inr, arith}
 use Rattle.std.specs.Prelude.{OnOk, OnErr}
-use Rattle.exec_driver.proofs.{Words.{Slab, written, is_durable, Asked, OpResult, asked_of, deadline_of, Request, landed, may_land, flight_of, RingState, is_flying, needs_permit, Waiter, Entry, Pending, WaiterId, Driving, request_at, IsHeld, cases_Bool}, Endings.{one_changed, flying_there}, Entering.landed_within, Keeping.punctual_one, Observing.held_alike, Stepping.held_ring}
-use Rattle.exec_outcomes.specs.declared.outcome.OpResult.TheVariants.{Count, Errno}
-use Rattle.exec_request.specs.{Kept.Kept, declared.window.{Opcode.Opcode, Window.Window}}
-use Rattle.exec_request.specs.declared.window.Opcode.TheVariants as opcode
+use Rattle.exec_driver.proofs.{Words.{Slab, written, OpResult, asked_of, deadline_of, Request, landed, may_land, flight_of, RingState, is_flying, Waiter, Entry, Pending, WaiterId, Driving, request_at, IsHeld, cases_Bool}, Endings.{one_changed, flying_there}, Entering.landed_within, Keeping.punctual_one, Observing.held_alike, Stepping.{held_ring, permit_same}, Windows.deadline_same}
+use Rattle.exec_request.specs.declared.window.{Opcode.Opcode, Window.Window}
 use Rattle.exec_ring.specs.{Landings.{Moves, MovesBy}, declared.{completion.Submission.Submission, landing.Unlawful.Unlawful, store.Store.Store}}
 use Rattle.exec_waiters.specs.{Events.Lands, Ids.user_data_of}
 use Rattle.exec_waiters.proofs.Fits.{asked_after}
@@ -19,28 +17,19 @@ pub record Landed {S F : Type 0} (d : Driving S F) (s' : Slab (Entry S F)) (ring
 
 -- bytes that move leave the deadline
 moved_by : (kind : Opcode) (w : Window) (n : ℕ) (r r' : Request) (st st' : Store) → MovesBy kind w n r r' st st' → deadline_of r' ≡ deadline_of r
-moved_by opcode.Send w n r r' st st' moved = ap deadline_of moved.1
-moved_by opcode.Recv w n r r' st st' moved = ap (λ (k : Kept). k.deadline) moved.1.kept
-moved_by opcode.Read w n r r' st st' moved = ap (λ (k : Kept). k.deadline) moved.1.kept
-moved_by opcode.Write w n r r' st st' moved = ap deadline_of moved.1
-moved_by _ w n r r' st st' moved = ap deadline_of moved.1
+moved_by = grind (arith, deadline_same)
 
 deadline_after : (flight : Option Submission) (given : OpResult) (r r' : Request) (st st' : Store) → Moves flight given r r' st st' → deadline_of r' ≡ deadline_of r
-deadline_after None given r r' st st' moved = absurd moved
-deadline_after (Some e) (Count n) r r' st st' moved = moved_by e.window.kind e.window n r r' st st' moved
-deadline_after (Some e) (Errno c) r r' st st' moved = ap deadline_of moved.1
+deadline_after = grind (arith, moved_by)
 
 module _ {S F : Type 0} where
   abbrev moved_to : Waiter S F → Request → Waiter S F
   moved_to w request = record w { request = request }
 
-  permit_stays : (w : Waiter S F) (request : Request) → asked_of request ≡ asked_of w.request → needs_permit (moved_to w request) ≡ needs_permit w
-  permit_stays w request same = ap (λ (a : Asked). is_durable a.kind && not w.permit) same
-
   -- the bytes of one in flight moved
   held_moved : (d : Driving S F) (id : WaiterId) (w : Waiter S F) (request : Request) (room most spots : ℕ) → request_at d id ≡ Some w → w.in_flight ≡ true → asked_of request ≡ asked_of w.request → deadline_of request ≡ deadline_of w.request → IsHeld d room most spots → IsHeld (record d { requests = written d.requests id.0 (Pending (moved_to w request)) }) room most spots
   held_moved d id w request room most spots at flies asked dated held =
-      held_alike d _ id (Some w) (Some (moved_to w request)) room most spots (one_changed d.requests id.0 w (moved_to w request) at) (rw flies refl) (rw flies refl) (rw flies refl) refl refl (ap (λ (b : Bool). w.in_flight && b) (permit_stays w request asked)) (rw dated refl) (λ t. refl) refl refl refl held
+      held_alike d _ id (Some w) (Some (moved_to w request)) room most spots (one_changed d.requests id.0 w (moved_to w request) at) (rw flies refl) (rw flies refl) (rw flies refl) refl refl (ap (λ (b : Bool). w.in_flight && b) (permit_same w request asked)) (rw dated refl) (λ t. refl) refl refl refl held
 
   pub held_land : (d : Driving S F) (s' : Slab (Entry S F)) (ring' : RingState) (id : WaiterId) (given : OpResult) (answer : Result (Unit {0}) Unlawful) (st st' : Store) (room most spots : ℕ) → IsHeld d room most spots → is_flying (request_at d id) ≡ true → Landed d s' ring' id given answer st st' → IsHeld (record d { requests = s'; ring = ring' }) room most spots
   held_land d s' ring' id given answer st st' room most spots held flies so =

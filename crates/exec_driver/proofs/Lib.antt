@@ -13,11 +13,8 @@ pub mod Arriving
 pub mod Admitting
 pub mod Advancing
 pub mod Landing
-pub mod Coming
-pub mod Queues
 pub mod Serving
 pub mod Turns
 pub mod Service
 pub mod Punctual
-pub mod Firsts
 pub mod Keeping

@@ -1,8 +1,9 @@
 -- Who waits for a request decides nothing of where it is.
-use Rattle.std.proofs.Common.{◌≡◌, ℕ, Bool, true, false, cond, Option, Some, None, refl, sym, ap, ◌∙◌, arith}
-use Rattle.exec_driver.proofs.{Words.{is_some, false≢true, Slab, value_at, written, TaskNo, changed, waiter_in, is_flying, Observer, Local, Forwarded, Orphaned, Waiter, Entry, Pending, Ready, WaiterId, Driving, is_queued, is_gated, is_unenrolled, is_enrolled, is_cancelled, IsHeld, is_unpermitted, is_undated, is_at_tick, may_cancel}, Stepping.stays}
+use Rattle.std.proofs.Common.{◌≡◌, ℕ, Bool, cond, Option, Some, None, refl, sym, ap, ◌∙◌, arith}
+use Rattle.exec_driver.proofs.{Words.{is_some, Slab, value_at, written, TaskNo, changed, is_flying, Observer, Local, Forwarded, Orphaned, Waiter, Entry, Pending, Ready, WaiterId, Driving, is_queued, is_gated, is_unenrolled, is_enrolled, is_cancelled, IsHeld, is_unpermitted, is_undated, is_at_tick, may_cancel}, Stepping.stays}
 use Rattle.exec_lists.proofs.{Counting.{OneChanged, one_written, one_removed, pending_is, flying_is}, Shifts.{shifted, nowhere}}
 use Rattle.exec_base.specs.Slab.{removed}
+use Rattle.exec_request.specs.declared.output.RequestOutput.{RequestOutput}
 use Rattle.exec_waiters.specs.{Events.{taken_from, taken, forwarded_from, forwarded, orphaned_from, orphaned, changed_from, with_observer, with_waker}, States.{is_local, is_held_by}}
 
 module _ {S F : Type 0} where
@@ -37,43 +38,31 @@ module _ {S F : Type 0} where
   held_observed d id w observer room most spots at held =
       held_alike d _ id (Some w) (Some (with_observer observer w)) room most spots (one_written d.requests id.0 (Pending w) (Pending (with_observer observer w)) at) refl refl refl refl refl refl refl (λ t. refl) refl refl refl held
 
-  held_let : (d : Driving S F) (id : WaiterId) (e : Entry S F) (room most spots : ℕ) → value_at d.requests id.0 ≡ Some e → is_some (waiter_in e) ≡ false → IsHeld d room most spots → IsHeld (record d { requests = removed d.requests id.0 }) room most spots
-  held_let d id (Pending w) room most spots at out held = absurd (false≢true (sym out))
-  held_let d id (Ready told) room most spots at out held =
+  held_let : (d : Driving S F) (id : WaiterId) (told : RequestOutput) (room most spots : ℕ) → value_at d.requests id.0 ≡ Some (Ready told) → IsHeld d room most spots → IsHeld (record d { requests = removed d.requests id.0 }) room most spots
+  held_let d id told room most spots at held =
       held_alike d _ id None None room most spots (one_removed d.requests id.0 (Ready told) at) refl refl refl refl refl refl refl (λ t. refl) refl refl refl held
 
+  -- what a call makes of an entry, by what it is
+  by_entry : (P : Option (Entry S F) → Type 0) (o : Option (Entry S F)) → P None → ((w : Waiter S F) → o ≡ Some (Pending w) → P (Some (Pending w))) → ((told : RequestOutput) → o ≡ Some (Ready told) → P (Some (Ready told))) → P o
+  by_entry P None none pending ready = none
+  by_entry P (Some (Pending w)) none pending ready = pending w refl
+  by_entry P (Some (Ready told)) none pending ready = ready told refl
+
   pub held_seen : (d : Driving S F) (id : WaiterId) (room most spots : ℕ) → IsHeld d room most spots → IsHeld (record d { requests = taken d.requests id.0 }) room most spots
-  held_seen d id room most spots held = by (value_at d.requests id.0) refl
-    where
-      by : (o : Option (Entry S F)) → value_at d.requests id.0 ≡ o → IsHeld (record d { requests = taken_from d.requests id.0 o }) room most spots
-      by None at = held
-      by (Some (Pending w)) at = held
-      by (Some (Ready told)) at = held_let d id (Ready told) room most spots at refl held
+  held_seen d id room most spots held =
+      by_entry (λ o. IsHeld (record d { requests = taken_from d.requests id.0 o }) room most spots) (value_at d.requests id.0) held (λ w at. held) (λ told at. held_let d id told room most spots at held)
 
   pub held_waked : (d : Driving S F) (id : WaiterId) (waker : TaskNo) (room most spots : ℕ) → IsHeld d room most spots → IsHeld (record d { requests = changed d.requests id.0 (with_waker waker) }) room most spots
-  held_waked d id waker room most spots held = by (value_at d.requests id.0) refl
-    where
-      by : (o : Option (Entry S F)) → value_at d.requests id.0 ≡ o → IsHeld (record d { requests = changed_from d.requests id.0 (with_waker waker) o }) room most spots
-      by None at = held
-      by (Some (Pending w)) at = held_observed d id w (Local (Some waker)) room most spots at held
-      by (Some (Ready told)) at = held
+  held_waked d id waker room most spots held =
+      by_entry (λ o. IsHeld (record d { requests = changed_from d.requests id.0 (with_waker waker) o }) room most spots) (value_at d.requests id.0) held (λ w at. held_observed d id w (Local (Some waker)) room most spots at held) (λ told at. held)
 
   choose : (b : Bool) (d : Driving S F) (s s' : Slab (Entry S F)) (room most spots : ℕ) → IsHeld (record d { requests = s }) room most spots → IsHeld (record d { requests = s' }) room most spots → IsHeld (record d { requests = cond b s s' }) room most spots
-  choose true d s s' room most spots one other = one
-  choose false d s s' room most spots one other = other
+  choose = grind arith
 
   pub held_forwarded : (d : Driving S F) (id : WaiterId) (sender : F) (room most spots : ℕ) → IsHeld d room most spots → IsHeld (record d { requests = forwarded d.requests id.0 sender }) room most spots
-  held_forwarded d id sender room most spots held = by (value_at d.requests id.0) refl
-    where
-      by : (o : Option (Entry S F)) → value_at d.requests id.0 ≡ o → IsHeld (record d { requests = forwarded_from d.requests id.0 sender o }) room most spots
-      by None at = held
-      by (Some (Pending w)) at = choose (is_local w.observer) d _ _ room most spots (held_observed d id w (Forwarded sender) room most spots at held) held
-      by (Some (Ready told)) at = held_let d id (Ready told) room most spots at refl held
+  held_forwarded d id sender room most spots held =
+      by_entry (λ o. IsHeld (record d { requests = forwarded_from d.requests id.0 sender o }) room most spots) (value_at d.requests id.0) held (λ w at. choose (is_local w.observer) d _ _ room most spots (held_observed d id w (Forwarded sender) room most spots at held) held) (λ told at. held_let d id told room most spots at held)
 
   pub held_orphaned : (d : Driving S F) (id : WaiterId) (room most spots : ℕ) → IsHeld d room most spots → IsHeld (record d { requests = orphaned d.requests id.0 }) room most spots
-  held_orphaned d id room most spots held = by (value_at d.requests id.0) refl
-    where
-      by : (o : Option (Entry S F)) → value_at d.requests id.0 ≡ o → IsHeld (record d { requests = orphaned_from d.requests id.0 o }) room most spots
-      by None at = held
-      by (Some (Pending w)) at = choose (is_held_by w.observer) d _ _ room most spots (held_observed d id w Orphaned room most spots at held) held
-      by (Some (Ready told)) at = held_let d id (Ready told) room most spots at refl held
+  held_orphaned d id room most spots held =
+      by_entry (λ o. IsHeld (record d { requests = orphaned_from d.requests id.0 o }) room most spots) (value_at d.requests id.0) held (λ w at. choose (is_held_by w.observer) d _ _ room most spots (held_observed d id w Orphaned room most spots at held) held) (λ told at. held_let d id told room most spots at held)

@@ -1,20 +1,18 @@
--- Deadlines that are kept: one that is enrolled, and when a wheel is settled.
-use Rattle.std.proofs.Common.{suc, ◌≡◌, ℕ, ◌+◌, ◌<◌, ◌≤◌, eqb, Bool, true, false, not, ◌&&◌, ◌||◌, List, [], ◌∷◌, length, get_or, Option, Some, None, Ok, Err, Result, refl, sym, ap, subst, ◌∙◌, inl, inr, arith}
-use Rattle.exec_driver.proofs.{Words.cases_Bool, Endings.{one_changed, ticked}, Expiring.{IsTaken, tick_tells, unset_there}, Serving.{eases_ended, keeps_still, keeps_both, serves_by, room_ended, room_still}, Stepping.first_tells}
+-- Deadlines that are kept: one that is enrolled, when a wheel is settled, and what comes next of one: the deadline of a
+-- request.
+use Rattle.std.proofs.Common.{suc, ◌≡◌, ℕ, ◌+◌, ◌<◌, ◌≤◌, eqb, Bool, true, false, not, ◌&&◌, ◌||◌, List, [], ◌∷◌, length, get_or, Option, Some, None, Ok, Err, Result, refl, sym, ap, subst, ◌∙◌, inl, inr, arith, ◌-◌}
+use Rattle.exec_driver.proofs.{Words.cases_Bool, Endings.{one_changed, ticked}, Expiring.{IsTaken, tick_tells, unset_there}, Serving.{eases_ended, keeps_still, keeps_both, serves_by, room_ended, room_still}, Stepping.{first_tells, no_first}, Advancing.tick_there}
 use Rattle.exec_lists.proofs.{Names.{same_tells, fewer_without}, Counting.pending_is}
-use Rattle.std.specs.Prelude.{count_by, is_some, Contains}
-use Rattle.std.specs.Option.{IfSome, IfNone}
-use Rattle.std.proofs.lemmas.Bool.{false≢true, cases_lt}
-use Rattle.std.proofs.lemmas.Bool.Decides.{eqb_tells}
-use Rattle.std.proofs.lemmas.List.Sums.{sum_by-cons}
-use Rattle.std.proofs.lemmas.List.Elements.{Contains-append_left, Contains-append_right}
+use Rattle.std.specs.Prelude.{count_by, is_some, Contains, find, nat_lt}
+use Rattle.std.specs.{Option.{IfSome, IfNone}, List.range_with_len}
+use Rattle.std.proofs.lemmas.{Bool.{false≢true, cases_lt, Decides.{eqb_tells, nat_tests}}, List.{Sums.sum_by-cons, Elements.{Contains-append_left, Contains-append_right}}}
 use Rattle.exec_base.specs.{Slab.{Slab, written}, declared.{error.Error.Error, slab.{Id.Id, Slot.{Slot, TheVariants.{Live, Vacant, Retired}}}}}
 use Rattle.exec_request.specs.Requests.{deadline_of}
-use Rattle.exec_time.specs.{Wheel.{Wheel, IsSettled, IsWithinReach, slot_of, scheduled}, WheelView.wheel_of, declared.wheel.TimeoutWheel.TimeoutWheel}
-use Rattle.exec_time.proofs.Ranges.{slots_apart}
+use Rattle.exec_time.specs.{Wheel.{Wheel, IsSettled, IsWithinReach, slot_of, scheduled, least_active}, WheelView.wheel_of, declared.wheel.TimeoutWheel.TimeoutWheel}
+use Rattle.exec_time.proofs.{Ranges.slots_apart, Passes.least_before}
 use Rattle.exec_waiters.specs.{Events.with_tick, States.{waiter_at, tick_in, tick_of}, Told.Tells, declared.{deferred.Deferred.Deferred, waiter.{Waiter.Waiter, Entry.{Entry, TheVariants.{Pending, Ready}}}, waiter_id.WaiterId.WaiterId}}
 use Rattle.exec_waiters.proofs.Changes.{one_if}
-use Rattle.exec_driver.specs.{Driving.{Driving, request_at}, Punctual.IsPunctual, Sound.{IsSound, is_tick, is_at_tick}, Steps.{tick_for, enrolled, told_by_enrolment, ended, Enrols}, Turns.Serves, declared.driver.timing.Enrolled.Enrolled}
+use Rattle.exec_driver.specs.{Driving.{Driving, request_at}, Punctual.{IsPunctual, IsFirstTick, TellsDeadlines}, Sound.{IsSound, is_tick, is_at_tick}, Steps.{tick_for, enrolled, told_by_enrolment, ended, Enrols}, Turns.Serves, declared.driver.timing.Enrolled.Enrolled}
 use Rattle.exec_lists.specs.{Lists.{has_first, first_of, is_among, after_enrolment}, Listed.{counts, count_of}}
 
 -- WHEELS
@@ -58,16 +56,10 @@ unfolding scheduled
 like_scheduled w id tick = (refl, refl)
 
 none_among : (ids : List WaiterId) (id : WaiterId) → has_first ids ≡ false → is_among id ids ≡ false
-none_among [] id none = refl
-none_among (x ∷ ids) id none = absurd (false≢true (sym none))
+none_among = grind arith
 
 tick_is : (t : ℕ) (tick : Option ℕ) → is_tick t tick ≡ true → tick ≡ Some t
-tick_is t None is = absurd (false≢true is)
-tick_is t (Some k) is = elim (eqb_tells t k) [ inl same ↦ ap Some (sym same.1) | inr other ↦ absurd (false≢true (sym other.0 ∙ is)) ]
-
-no_first : (ids : List WaiterId) → has_first ids ≡ true → first_of ids ≡ None → ⊥
-no_first [] some is = false≢true some
-no_first (x ∷ ids) some is = absurd (cc)
+tick_is = grind (arith, eqb_tells)
 
 module _ {S F : Type 0} where
   -- where some are counted, there is one
@@ -176,3 +168,30 @@ module _ {S F : Type 0} where
 -- who puts the kernel off
 pub put_off : (n m : ℕ) (defer a b : Bool) → m ≤ n → eqb m 0 ≡ false → (not (eqb n 0) && (not defer || a || b)) ≡ false → defer ≡ true
 put_off = grind arith
+
+found_passes : (p : ℕ → Bool) (xs : List ℕ) (x : ℕ) → find p xs ≡ Some x → p x ≡ true
+found_passes p [] x is = absurd (cc)
+found_passes p (y ∷ ys) x is = grind (arith, found_passes p ys x)
+
+least_is_active : (w : Wheel) (t : ℕ) → least_active w ≡ Some t → 0 < w.active t
+unfolding least_active
+least_is_active w t is = let passes = found_passes (λ tick. nat_lt 0 (w.active tick)) (range_with_len (w.current + 1) (w.slots - 1)) t is in grind (arith, nat_tests, passes)
+
+module _ {S F : Type 0} where
+  first_tick : (d : Driving S F) → IsSound d → IsWithinReach d.wheel → IsSettled d.wheel → IsFirstTick d (least_active d.wheel)
+  first_tick d sound reach settled = by (least_active d.wheel) refl
+    where
+      before : (id : WaiterId) (t : ℕ) → tick_of (request_at d id) ≡ Some t → (m : ℕ) × (least_active d.wheel ≡ Some m) × (m ≤ t)
+      before id t at =
+          let active = tick_there d.requests d.wheel.active id.0 (request_at d id) t refl at sound.ticks in
+          least_before d.wheel t (settled.ahead t active) (reach.span t active) active
+
+      by : (o : Option ℕ) → least_active d.wheel ≡ o → IsFirstTick d o
+      by None none = λ id t at. let m = before id t at in let no : None ≡ Some m.0 = sym none ∙ m.1 in absurd (cc)
+      by (Some first) is =
+          let active = least_is_active d.wheel first is in
+          let place = counted (counts (is_at_tick first)) (Vacant d.requests.first) d.requests.slots (omega (arith, active, sound.ticks first)) in
+          (named_there d.requests first place.0 _ refl place.1, λ id t at. let m = before id t at in let same : Some first ≡ Some m.0 = sym is ∙ m.1 in let it : first ≡ m.0 = cc in omega (arith, it, m.2))
+
+  pub tells_deadlines : (d : Driving S F) → IsSound d → IsWithinReach d.wheel → TellsDeadlines d
+  tells_deadlines d sound reach = record { settled = settled d sound.ticks; first = first_tick d sound reach }

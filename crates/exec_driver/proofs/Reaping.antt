@@ -1,10 +1,10 @@
 -- A completion that is taken in keeps a driver as it should be.
-use Rattle.std.proofs.Common.{zero, suc, ◌≡◌, ℕ, ◌<◌, Bool, true, false, not, ◌&&◌, cond, List, [], ◌∷◌, ◌++◌, length, Option, Some, None, refl, sym, ap, ◌∙◌, inr, arith, append-nil}
-use Rattle.std.specs.Prelude.{slice_get, slice_set}
-use Rattle.exec_driver.proofs.{Words.{is_some, false≢true, Slab, written, is_durable, Asked, Kind, OpResult, may_complete, told_by_finish, Id, asked_of, deadline_of, Ended, asks_cancel, Request, Landing, next_completion, Completion, Account, result_in, waiter_at, is_flying, needs_permit, Tells, Deferred, Waiter, Entry, Pending, WaiterId, Driving, request_at, is_queued, is_gated, is_unenrolled, is_enrolled, is_cancelled, with_queued, IsSound, IsHeld, is_unpermitted, is_undated, is_at_tick, may_cancel, OpenState, account_in, with_account, is_control, taken_out, open_after, ended}, Endings.one_changed, Stepping.stays, Entering.{less_reaped, no_wake}}
+use Rattle.std.proofs.Common.{◌≡◌, ℕ, ◌<◌, Bool, true, false, ◌&&◌, cond, List, [], ◌∷◌, ◌++◌, length, Option, Some, None, refl, sym, ap, ◌∙◌, inr, arith, append-nil}
+use Rattle.exec_driver.proofs.{Words.{is_some, Slab, written, Asked, Kind, OpResult, may_complete, told_by_finish, Id, deadline_of, Ended, asks_cancel, Request, Landing, next_completion, Completion, Account, result_in, waiter_at, is_flying, needs_permit, Tells, Deferred, Waiter, Entry, Pending, WaiterId, Driving, request_at, is_queued, is_gated, is_unenrolled, is_enrolled, is_cancelled, with_queued, IsSound, IsHeld, is_unpermitted, is_undated, is_at_tick, may_cancel, OpenState, account_in, with_account, is_control, taken_out, open_after, ended}, Endings.one_changed, Stepping.stays, Entering.{less_reaped, no_wake}}
 use Rattle.exec_lists.proofs.{Counting.{pending_is, flying_is}, Shifts.{Kept, Joined, shifted, nowhere, room_for}}
+use Rattle.exec_opens.proofs.Lines.{set_there}
 use Rattle.exec_outcomes.specs.{Outcomes.{Cursor, outcome_next, outcome_by as answer_by, outcome_by_stop}, declared.outcome.{Judged.Judged, Outcome.Outcome}}
-use Rattle.exec_waiters.specs.{Events.{is_lawful_for, outcome_by}, declared.completed.CompletionOutcome.{CompletionOutcome, TheVariants.{Requeue, Complete}}, States.{name_of, named}, Told.nothing_told}
+use Rattle.exec_waiters.specs.{Events.{is_lawful_for, outcome_by}, declared.completed.CompletionOutcome.TheVariants.{Requeue, Complete}, States.{name_of, named}, Told.nothing_told}
 use Rattle.exec_driver.specs.{Steps.{landed_at, lawful_of}, declared.driver.reaping.Reaped.Reaped}
 
 -- where no result decides, nobody asked for the cancel
@@ -12,8 +12,7 @@ by_none : (kind : Kind) (b : Bool) (o : Option (Judged × ℕ)) → answer_by ki
 by_none = grind arith
 
 choice : (c : Bool) (x y : Option Outcome) (b : Bool) → (x ≡ None → b ≡ false) → (y ≡ None → b ≡ false) → cond c x y ≡ None → b ≡ false
-choice true x y b one other is = one is
-choice false x y b one other is = other is
+choice = grind arith
 
 by_stop : (asked : Asked) (b : Bool) (o : Option (Judged × ℕ)) (later : List Judged) → outcome_by_stop asked b o later ≡ None → b ≡ false
 by_stop = grind arith
@@ -22,30 +21,18 @@ pub goes_on_uncancelled : (asked : Asked) (cursor : Cursor) (r : Judged) → out
 goes_on_uncancelled asked cursor r is = choice cursor.switched _ _ r.cancelled (λ e. by_none _ r.cancelled _ e) (λ e. by_stop asked r.cancelled _ _ e) is
 
 false_and : (a b : Bool) → a ≡ true → (a && b) ≡ false → b ≡ false
-false_and true b is none = none
-false_and false b is none = absurd (false≢true is)
+false_and = grind arith
 
 -- what an outcome says of the answer, and of whose it is
 pub requeue_tells : (id : Id) (answer : Option Ended) (other : WaiterId) → outcome_by id answer ≡ Requeue other → (answer ≡ None) × (record { 0 = id } ≡ other)
-requeue_tells id None other is = (refl, cc)
-requeue_tells id (Some how) other is = absurd (cc)
+requeue_tells = grind arith
 
 pub complete_tells : (id : Id) (answer : Option Ended) (other : WaiterId) (how : Ended) → outcome_by id answer ≡ Complete other how → (answer ≡ Some how) × (record { 0 = id } ≡ other)
-complete_tells id None other how is = absurd (cc)
-complete_tells id (Some e) other how is = (cc, cc)
-
-pub outcome_same : (o : Option CompletionOutcome) (x y : CompletionOutcome) → o ≡ Some x → o ≡ Some y → x ≡ y
-outcome_same o x y a b = cc
+complete_tells = grind arith
 
 -- what is told of its end
 pub told_over : (a b : WaiterId) (given : OpResult) (how how' : Ended) (p q : Option ℕ) → a ≡ b → how ≡ how' → p ≡ q → let t : Reaped = record { id = b; given = given; ended = Some how; permit = p } in let t' : Reaped = record { id = a; given = given; ended = Some how'; permit = q } in Some t ≡ Some t'
 told_over a b given how how' p q same ended permit = rw (same, ended, permit) refl
-
--- what was written is there
-set_there : {A : Type 0} (xs : List A) (i : ℕ) (x y : A) → slice_get xs i ≡ Some x → slice_get (slice_set xs i y) i ≡ Some y
-set_there [] i x y at = absurd (cc)
-set_there (z ∷ zs) zero x y at = refl
-set_there (z ∷ zs) (suc i) x y at = set_there zs i x y at
 
 module _ {S F : Type 0} where
   -- a completion that is taken in names a request in flight, which may give this
@@ -66,10 +53,6 @@ module _ {S F : Type 0} where
 
   pub permit_of : (d : Driving S F) (id : WaiterId) (w : Waiter S F) → request_at d id ≡ Some w → w.in_flight ≡ true → IsSound d → needs_permit w ≡ false
   permit_of d id w at flies sound = false_and w.in_flight (needs_permit w) flies (ap is_unpermitted (sym at) ∙ sound.permits id.0)
-
-  -- what decides whether it lacks a permit stays
-  pub landed_permit : (w : Waiter S F) (request : Request) → asked_of request ≡ asked_of w.request → needs_permit (landed_of w request) ≡ needs_permit w
-  landed_permit w request same = ap (λ (a : Asked). is_durable a.kind && not w.permit) same
 
   pub held_landed : (d : Driving S F) (id : WaiterId) (w : Waiter S F) (request : Request) (c : Completion) (ls : List Landing) (room most spots : ℕ) → request_at d id ≡ Some w → w.in_flight ≡ true → deadline_of request ≡ deadline_of w.request → next_completion d.ring ≡ Some c → is_control c ≡ false → IsHeld d room most spots → IsHeld (record (landed_at (taken_out d) id (landed_of w request)) { landings = ls }) room most spots
   held_landed d id w request c ls room most spots at flies dated next operation held =
@@ -136,7 +119,7 @@ module _ {S F : Type 0} where
   no_account = grind arith
 
   pub kept_of_open : (w : Waiter S F) (given : OpResult) (opens : List OpenState) (file : Option ℕ) → account_in (with_account opens file (open_after w given (account_in opens file))) file ≡ open_after w given (account_in opens file)
-  kept_of_open = grind (arith, no_account, open_after, set_there)
+  kept_of_open w given opens file = grind (arith, no_account, open_after, set_there opens)
 
   -- it ends, by its name as the part gives it
   pub ended_over : (old d d' : Driving S F) (a b : WaiterId) (w : Waiter S F) (how : Ended) (account account' : Option Account) → a ≡ b → d' ≡ ended d b w how account → d ≡ record (landed_at (taken_out old) a w) { landings = d.landings } → account ≡ account' → d' ≡ record (ended (landed_at (taken_out old) a w) a w how account') { landings = d'.landings }

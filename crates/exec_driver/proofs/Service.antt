@@ -8,7 +8,7 @@ use Rattle.exec_waiters.specs.{States.file_of, Told.Tells, declared.{deferred.De
 use Rattle.exec_driver.specs.{Driving.{Driving, request_at, is_full, may_stage_one, has_pending}, Examples.idle, Placed.Says, Service.{permit_by, Repeats, NoStep, OneMore, Passes, reached, ExpiresOne, EnrolsOne, GrantsAt, Turn, NoTurn, StagesEntry, StagesOneEntry, Cancel, Request, WakePoll, Staged, Parks, Refused, Waited, NoGate, ServesInOrder, entered_if}, Steps.{Grants, Enrols, StagesOne, is_turn_of, expired, told_by_cancel, cancel_staged, poll_staged, with_landings}, declared.driver.{staging.Granted.Granted, timing.Enrolled.Enrolled}, Turns.{made_way, may_wait, finds_busy}}
 use Rattle.exec_lists.specs.Lists.{has_first, first_of}
 use Rattle.exec_opens.specs.Opens.{OpenState, account_in, holder_at}
-use Rattle.exec_driver.proofs.{Turns.{no_first, none_staged, way_may}, Words.{cases_Bool, and_parts, and_from}}
+use Rattle.exec_driver.proofs.{Stepping.no_first, Turns.{none_staged, way_may}, Words.{cases_Bool, and_parts, and_from}}
 
 module _ {A : Type 0} (Step : A → A → Type 0) where
   pub repeats_both : (a b c : A) → Repeats Step a b → Repeats Step b c → Repeats Step a c
@@ -16,15 +16,7 @@ module _ {A : Type 0} (Step : A → A → Type 0) where
   repeats_both a b c one (OneMore x y rest step) = OneMore x y (repeats_both a b x one rest) step
 
 pub none_added : (a : ℕ) (o : Option ℕ) → SomeIff o (a + 1 < 2 ^ 32) (a + 1) → o ≡ None → a + 1 < 2 ^ 32 → ⊥
-none_added a None not none = not
-none_added a (Some x) is none = absurd (cc)
-
--- a service whose last enter was left out says so where requests stand
-pub put_off_so : (must none stand : Bool) → none ≡ stand → must ≡ false → not none ≡ (not must && not stand)
-put_off_so must none stand is off = rw (is, off) refl
-
-pub worked_so : (must stand : Bool) → must ≡ true → false ≡ (not must && not stand)
-worked_so must stand on = rw on refl
+none_added = grind arith
 
 -- no wait where something is pending, or where the poll has no room
 pub may_pending : (pending room : Bool) → pending ≡ true → (not pending && room) ≡ false
@@ -59,12 +51,10 @@ module _ {S F : Type 0} where
   grants_passed worker file d d' opens mid opens' x y s s' (Some g) p says is some none same passes = Turn mid g says some (rw is passes)
 
   pub expires_one : (d d' : Driving S F) (x y : Deferred S F) (o : Option WaiterId) → Says d' → has_first d.lists.due ≡ true → o ≡ first_of d.lists.due → IfSome o (λ id. d' ≡ expired d id) → IfSome o (λ id. Tells x y (told_by_cancel id (request_at d id))) → ExpiresOne (d, x) (d', y)
-  expires_one d d' x y None says some first is tells = absurd (no_first d.lists.due some first)
-  expires_one d d' x y (Some id) says some first is tells = record { says = says; id = id; first = sym first; driver = is; tells = tells }
+  expires_one = grind (arith, no_first)
 
   pub enrols_one : (now : ℕ) (d d' : Driving S F) (x y : Deferred S F) (o : Option Enrolled) → Says d' → has_first d.lists.enrolments ≡ true → IfSome o (λ e. first_of d.lists.enrolments ≡ Some e.id) → IfNone o (first_of d.lists.enrolments ≡ None) → IfSome o (λ e. Enrols d d' x y e.id e.ended now) → EnrolsOne now (d, x) (d', y)
-  enrols_one now d d' x y None says some first none enrols = absurd (no_first d.lists.enrolments some (sym none))
-  enrols_one now d d' x y (Some e) says some first none enrols = record { says = says; answer = e; first = first; enrols = enrols }
+  enrols_one = grind (arith, no_first)
 
   -- STAGING
 
@@ -73,7 +63,7 @@ module _ {S F : Type 0} where
   cancel_entry opens d d' (Some id) room some first is = Cancel id room (sym first) is
 
   request_here : (opens : List OpenState) (d d' : Driving S F) (p : Option WaiterId) → is_full d ≡ false → first_of d.lists.cancels ≡ None → may_stage_one d ≡ true → p ≡ first_of d.lists.queued → IfSome p (λ id. (w : Waiter S F) → request_at d id ≡ Some w → StagesOne d d' id w (account_in opens (file_of w.request))) → StagesEntry opens d d'
-  request_here opens d d' None room none may next staged = absurd (no_first d.lists.queued (and_parts _ _ may).0 next)
+  request_here opens d d' None room none may next staged = absurd (no_first d.lists.queued (and_parts _ _ may).0 (sym next))
   request_here opens d d' (Some id) room none may next staged = Request id room none may (sym next) staged
 
   pub request_entry : (opens : List OpenState) (d e d' : Driving S F) (o p : Option WaiterId) → is_full d ≡ false → is_none o ≡ true → o ≡ first_of d.lists.cancels → IfNone o (e ≡ d) → (has_first d.lists.cancels || may_stage_one d) ≡ true → p ≡ first_of e.lists.queued → IfSome p (λ id. (w : Waiter S F) → request_at e id ≡ Some w → StagesOne e d' id w (account_in opens (file_of w.request))) → StagesEntry opens d d'

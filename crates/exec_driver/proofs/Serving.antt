@@ -3,7 +3,6 @@ use Rattle.std.proofs.Common.{◌≡◌, ◌≢◌, ◌⊎◌, ℕ, ◌+◌, ◌
 use Rattle.exec_driver.proofs.{Words.cases_Bool, Endings.{one_changed, one_finished}, Telling.{few_finished, room_left, room_within}}
 use Rattle.exec_lists.proofs.{Names.same_tells, Counting.{OneChanged, pending_is}}
 use Rattle.std.specs.Prelude.{is_some}
-use Rattle.std.proofs.lemmas.Bool.{false≢true}
 use Rattle.exec_base.specs.Slab.{written}
 use Rattle.exec_outcomes.specs.{Accounts.Account, declared.outcome.OpResult.OpResult}
 use Rattle.exec_request.specs.States.{Ended}
@@ -17,8 +16,7 @@ use Rattle.exec_opens.specs.Opens.{OpenState}
 
 -- a list without a name is empty where it was, and has every other that it had
 pub none_without : (id : WaiterId) (ids : List WaiterId) → has_first ids ≡ false → has_first (without id ids) ≡ false
-none_without id [] none = refl
-none_without id (x ∷ ids) none = absurd (false≢true (sym none))
+none_without = grind arith
 
 pub among_others : (x id : WaiterId) (ids : List WaiterId) → x.0 ≢ id.0 → is_among x ids ≡ true → is_among x (without id ids) ≡ true
 among_others x id [] apart among = among
@@ -36,15 +34,13 @@ pub record IsLike (w w' : Wheel) : Type 0 where
 
 pub like_unscheduled : (w : Wheel) (tick : Option ℕ) → IsLike w (unscheduled w tick)
 unfolding removed
-like_unscheduled w None = record { current = refl; bucket = refl; slots = refl }
-like_unscheduled w (Some k) = record { current = refl; bucket = refl; slots = refl }
+like_unscheduled = grind arith
 
 same_long : {A : Type 0} (a b : List A) → b ≡ a ++ [] → length b ≤ length a
 same_long a b is = let long = ap length is ∙ length-append a [] in omega (arith, long)
 
 pub at_most_one : (b : Bool) → one_if b ≤ 1
-at_most_one true = omega arith
-at_most_one false = omega arith
+at_most_one = grind arith
 
 module _ {S F : Type 0} where
   pub goes_itself : (d : Driving S F) → GoesOn d d
@@ -157,8 +153,7 @@ module _ {S F : Type 0} where
       ]
 
   pub eases_judged : (d : Driving S F) (id : WaiterId) (w : Waiter S F) (answer : Option Ended) (account : Option Account) → request_at d id ≡ Some w → Eases d (queued_or_ended d id w answer account)
-  eases_judged d id w None account at = record { keeps = keeps_still d _ refl refl refl refl (λ b. b); done = record { due = λ n. n; enrolments = λ n. n; cancels = λ n. n } }
-  eases_judged d id w (Some how) account at = eases_ended d id w how account at
+  eases_judged = grind (arith, keeps_still, eases_ended)
 
   pub room_judged : (d : Driving S F) (id : WaiterId) (w : Waiter S F) (answer : Option Ended) (account : Option Account) (x y : Deferred S F) → request_at d id ≡ Some w → Tells x y (told_by_end id w answer account) → CanTell d x → CanTell (queued_or_ended d id w answer account) y
   room_judged d id w None account x y at tells room = room_still x y _ _ tells (omega arith) room

@@ -1,18 +1,19 @@
 -- Each other step keeps a driver sound.
 use Rattle.std.proofs.Common.{◌≡◌, ℕ, ◌<◌, ◌≤◌, Bool, true, false, not, ◌&&◌, List, [], ◌∷◌, length, Option, Some, None, refl, sym, ap, ◌∙◌, inl, inr, arith, length-append}
-use Rattle.exec_driver.proofs.{Words.{is_some, false≢true, Slab, written, is_durable, Asked, asked_of, deadline_of, asks_cancel, Request, Landing, RingState, taken_places, Submission, waiter_at, is_flying, pending_count, needs_permit, Waiter, Entry, Pending, WaiterId, Driving, request_at, is_queued, is_gated, is_unenrolled, is_enrolled, is_cancelled, first_of, rest_of, IsListed, IsSound, IsHeld, is_unpermitted, is_undated, is_at_tick, may_cancel, are_all, cases_Bool, and_parts}, Endings.one_changed, Entering.Within}
+use Rattle.exec_driver.proofs.{Words.{is_some, Slab, written, is_durable, Asked, asked_of, deadline_of, asks_cancel, Request, Landing, RingState, taken_places, Submission, waiter_at, is_flying, pending_count, needs_permit, Waiter, Entry, Pending, WaiterId, Driving, request_at, is_queued, is_gated, is_unenrolled, is_enrolled, is_cancelled, first_of, rest_of, IsListed, IsSound, IsHeld, is_unpermitted, is_undated, is_at_tick, may_cancel, are_all, cases_Bool, and_parts}, Endings.one_changed, Entering.Within}
 use Rattle.exec_lists.proofs.{Counting.{pending_is, flying_is, flying_few}, Shifts.{Shift, Left, Kept, First, shifted, nowhere}}
 use Rattle.exec_lists.specs.Lists.{after_queued, has_first}
 use Rattle.exec_driver.specs.Steps.{with_staged}
 
 -- a list with a first
 pub first_tells : (ids : List WaiterId) (id : WaiterId) → first_of ids ≡ Some id → ids ≡ id ∷ rest_of ids
-first_tells [] id is = absurd (cc)
-first_tells (x ∷ ids) id is = cc
+first_tells = grind arith
 
 pub none_first : (ids : List WaiterId) → has_first ids ≡ false → ids ≡ []
-none_first [] is = refl
-none_first (x ∷ ids) is = absurd (false≢true (sym is))
+none_first = grind arith
+
+pub no_first : (ids : List WaiterId) → has_first ids ≡ true → first_of ids ≡ None → ⊥
+no_first = grind arith
 
 module _ {S F : Type 0} where
   -- a place in which a request stays as it was
@@ -25,8 +26,7 @@ module _ {S F : Type 0} where
   first_in p s (x ∷ ids) id is listed = let same : x ≡ id = cc in rw (← same) ((and_parts (p (waiter_at s x.0)) (are_all p s ids) listed.all).0)
 
   pub there_by : (p : Option (Waiter S F) → Bool) (o : Option (Waiter S F)) → p None ≡ false → p o ≡ true → (w : Waiter S F) × (o ≡ Some w)
-  there_by p None none is = absurd (false≢true (sym none ∙ is))
-  there_by p (Some w) none is = (w, refl)
+  there_by = grind arith
 
   pub first_there : (p : Option (Waiter S F) → Bool) → p None ≡ false → (s : Slab (Entry S F)) (ids : List WaiterId) (id : WaiterId) → first_of ids ≡ Some id → IsListed p s ids → (w : Waiter S F) × (waiter_at s id.0 ≡ Some w)
   first_there p none s ids id first listed = there_by p (waiter_at s id.0) none (first_in p s ids id first listed)

@@ -13,8 +13,7 @@ module _ {S F : Type 0} where
   having d ps w = record d { ring = record d.ring { posted = ps; wakes = w } }
 
   either_way : (b : Bool) (x x' y y' : Driving S F) (fs : List Landing) → record x { landings = fs } ≡ record x' { landings = fs } → record y { landings = fs } ≡ record y' { landings = fs } → record (cond b x y) { landings = fs } ≡ record (cond b x' y') { landings = fs }
-  either_way true x x' y y' fs one other = one
-  either_way false x x' y y' fs one other = other
+  either_way = grind arith
 
   -- what was posted before, and what else ends, decides nothing
   alike : (ps : List Posted) (d : Driving S F) (q : List Posted) (ls fs : List Landing) → record (swept_from ps (record d { ring = record d.ring { posted = q }; landings = ls })) { landings = fs } ≡ record (swept_from ps d) { landings = fs }
@@ -36,20 +35,17 @@ module _ {S F : Type 0} where
   step_by (p ∷ ps) w d ls fs is = swept_by (ltb 0 p.wakes) (p.wakes - 1) p ps w d ls fs is
 
   still_by : (b : Bool) (p : Posted) (ps : List Posted) (w : ℕ) (d : Driving S F) → ltb 0 p.wakes ≡ b → is_control (cond b (wake_completion true) p.completion) ≡ false → swept (having d (p ∷ ps) w) ≡ having d (p ∷ ps) w
-  still_by true p ps w d at is = absurd (false≢true (sym is))
-  still_by false p ps w d at is = rw is (ap (λ (k : ℕ). having d (record p { wakes = k } ∷ ps) w) (sym (none_left p.wakes at)))
+  still_by = grind (arith, none_left)
 
   still_wakes : (b : Bool) (w : ℕ) (d : Driving S F) → ltb 0 w ≡ b → is_next_control (cond b (Some (wake_completion true)) None) ≡ false → swept (having d [] w) ≡ having d [] w
-  still_wakes true w d at is = absurd (false≢true (sym is))
-  still_wakes false w d at is = ap (having d []) (sym (none_left w at))
+  still_wakes = grind (arith, none_left)
 
   still : (ps : List Posted) (w : ℕ) (d : Driving S F) → is_next_control (next_in ps w) ≡ false → swept (having d ps w) ≡ having d ps w
   still [] w d is = still_wakes (ltb 0 w) w d refl is
   still (p ∷ ps) w d is = still_by (ltb 0 p.wakes) p ps w d refl is
 
   after_other : (d : Driving S F) (o : Option Completion) → is_next_control o ≡ false → after_next_control d o ≡ d
-  after_other d None is = refl
-  after_other d (Some c) is = rw is refl
+  after_other = grind arith
 
   -- the sweep of one makes of it what that of the other does, but for what else ends
   pub record SweepsAlike (d first : Driving S F) : Type 0 where

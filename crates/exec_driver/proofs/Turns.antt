@@ -1,53 +1,41 @@
 -- The steps of a service: completions, deadlines, permits.
-use Rattle.std.proofs.Common.{zero, suc, ◌≡◌, ℕ, ◌+◌, ◌^◌, ◌<◌, ◌≤◌, eqb, ltb, Bool, true, false, not, ◌&&◌, ◌||◌, cond, List, [], ◌∷◌, length, Option, Some, None, refl, sym, ap, subst, ◌∙◌, inr, arith}
-use Rattle.exec_driver.proofs.{Words.{and_from, and_parts, cases_Bool}, Endings.{one_changed, one_finished}, Granting.gated_there, Queues.{IsEntered, enters}, Serving.{Eases, Answers, eases_both, eases_is, eases_ring, eases_swept, eases_written, eases_judged, after_reap, reaps_ring, room_still, room_judged, room_ended, keeps_one, like_unscheduled, serves_by, serves_itself, done_itself}, Stepping.{first_in, first_there, first_tells}, Telling.room_within}
+use Rattle.std.proofs.Common.{◌≡◌, ℕ, ◌+◌, ◌^◌, ◌<◌, ◌≤◌, eqb, ltb, Bool, true, false, not, ◌&&◌, ◌||◌, cond, List, [], ◌∷◌, length, Option, Some, None, refl, sym, ap, subst, ◌∙◌, inr, arith}
+use Rattle.exec_driver.proofs.{Words.{and_from, and_parts, cases_Bool}, Endings.{one_changed, one_finished}, Granting.gated_there, Entering.{IsEntered, enters}, Serving.{Eases, Answers, eases_both, eases_is, eases_ring, eases_swept, eases_written, eases_judged, after_reap, reaps_ring, room_still, room_judged, room_ended, keeps_one, like_unscheduled, serves_by, serves_itself, done_itself}, Stepping.{first_in, first_there, first_tells, no_first}, Telling.room_within, Advancing.is_itself}
 use Rattle.exec_lists.proofs.Names.{fewer_without}
 use Rattle.std.specs.Prelude.{is_some, is_none}
 use Rattle.std.specs.Option.{IfSome, IfNone, SomeIff}
 use Rattle.std.proofs.lemmas.Bool.{false≢true}
 use Rattle.exec_base.specs.{Slab.{Slab, written}, declared.slab.Id.Id}
 use Rattle.exec_outcomes.specs.{Accounts.Account, declared.outcome.OpResult.OpResult}
-use Rattle.exec_request.specs.{States.{asks_cancel}, declared.results.WaiterState.{WaiterState, TheVariants.{Active, CancelRequested}}}
+use Rattle.exec_request.specs.{States.asks_cancel, declared.results.WaiterState.WaiterState}
 use Rattle.exec_ring.specs.{Completions.{result_in}, Kernels.{is_quiet, has_none, next_completion, next_in, posted_left, wakes_left, reaped}, declared.completion.{Completion.Completion, Posted.Posted}}
 use Rattle.exec_waiters.specs.{Events.{cancelled, with_permit}, States.{waiter_at, flying_count, tick_in, file_of, gate_in}, Told.Tells, declared.{deferred.Deferred.Deferred, waiter.{Waiter.Waiter, Entry.{Entry, TheVariants.Pending}}, waiter_id.WaiterId.WaiterId}}
 use Rattle.exec_waiters.proofs.Changes.{one_if}
 use Rattle.exec_driver.specs.{Driving.{Driving, request_at, is_enrolled, is_queued, is_full, may_stage_one, has_pending}, Sound.IsSound, Steps.{noted, swept, swept_from, taken_out, queued_or_ended, permitted, ReapsNext, completed_in, lawful_of, if_lawful, expired, told_by_cancel, timed_out, cancelling, ended, Grants, StagesOne, with_staged, entered, lower, lowest_gate}, Turns.{Serves, StaysDone, waiting, unreaped, unstaged, made_way, may_wait}, declared.driver.{reaping.Reaped.Reaped, staging.Granted.Granted}}
 use Rattle.exec_lists.specs.Lists.{has_first, first_of, rest_of, without, after_due, after_queued}
 use Rattle.exec_opens.specs.Opens.{OpenState, account_in}
-use Rattle.exec_driver.proofs.Coming.{is_itself}
 
 -- HOW MANY COMPLETIONS
 
 fewer_reaped : (ps : List Posted) (w : ℕ) (c : Completion) → next_in ps w ≡ Some c → waiting (posted_left ps) (wakes_left ps w) < waiting ps w
 fewer_reaped = grind arith
 
-above : (w : ℕ) → eqb w 0 ≡ false → 0 < w
-above zero is = absurd (false≢true (sym is))
-above (suc n) is = omega arith
-
 some_waiting : (ps : List Posted) (w : ℕ) → (has_none ps && eqb w 0) ≡ false → 0 < waiting ps w
-some_waiting [] w is = above w is
-some_waiting (p ∷ ps) w is = omega arith
+some_waiting = grind arith
 
 without_first : (ids : List WaiterId) (id : WaiterId) → first_of ids ≡ Some id → without id (rest_of ids) ≡ without id ids
 without_first ids id first = rw (first_tells ids id first, is_itself id) refl
 
 -- who asked for its cancel has no deadline in the wheel
 no_tick : (s : WaiterState) → asks_cancel s ≡ true → is_some (tick_in s) ≡ false
-no_tick (Active tick) is = absurd (false≢true is)
-no_tick CancelRequested is = refl
-
-pub no_first : (ids : List WaiterId) → has_first ids ≡ true → None ≡ first_of ids → ⊥
-no_first [] some is = false≢true some
-no_first (x ∷ ids) some is = absurd (cc)
+no_tick = grind arith
 
 lower_from : (from : ℕ) (least o : Option ℕ) → ((f : ℕ) → least ≡ Some f → from ≤ f) → (f : ℕ) → lower from least o ≡ Some f → from ≤ f
 lower_from = grind arith
 
 -- what a sum that fits is
 pub added_tells : (a : ℕ) (o : Option ℕ) (b : ℕ) → SomeIff o (a + 1 < 2 ^ 32) (a + 1) → o ≡ Some b → (a + 1 < 2 ^ 32) × (b ≡ a + 1)
-added_tells a None b is some = absurd (cc)
-added_tells a (Some x) b is some = let same : x ≡ b = cc in (is.0, sym same ∙ is.1)
+added_tells = grind arith
 
 module _ {S F : Type 0} where
   waiting_swept : (ps : List Posted) (d : Driving S F) → unreaped (swept_from ps d).ring ≤ waiting ps d.ring.wakes
@@ -154,7 +142,7 @@ module _ {S F : Type 0} where
       expires d e d' id x y (is ∙ same) first refl (serves_by d e x y keeps (room_still x y _ _ (rw (at, flies) at tells) keeps.pending))
 
   pub expire_serves : (d d' : Driving S F) (o : Option WaiterId) (x y : Deferred S F) → IsSound d → has_first d.lists.due ≡ true → o ≡ first_of d.lists.due → IfSome o (λ id. d' ≡ expired d id) → IfSome o (λ id. Tells x y (told_by_cancel id (request_at d id))) → Expires d d' x y
-  expire_serves d d' None x y sound some first is tells = absurd (no_first d.lists.due some first)
+  expire_serves d d' None x y sound some first is tells = absurd (no_first d.lists.due some (sym first))
   expire_serves d d' (Some id) x y sound some first is tells =
       let there = first_there is_enrolled refl d.requests d.lists.due id (sym first) sound.due in
       let ticks : is_some (tick_in there.0.state) ≡ true = rw there.1 at (first_in is_enrolled d.requests d.lists.due id (sym first) sound.due) in
@@ -179,19 +167,17 @@ module _ {S F : Type 0} where
       (record { eases = eases_is old e new s.driver (eases_written old e id w w' at refl refl refl refl refl refl refl refl); no_more = omega (arith, list, lists) }, omega (arith, list, lists))
 
   stage_any : (d d' : Driving S F) (o : Option WaiterId) (account : Waiter S F → Option Account) → IsSound d → may_stage_one d ≡ true → o ≡ first_of d.lists.queued → IfSome o (λ id. (w : Waiter S F) → request_at d id ≡ Some w → StagesOne d d' id w (account w)) → Stages d d' × (unstaged d' < unstaged d)
-  stage_any d d' None account sound may first staged = absurd (no_first d.lists.queued (and_parts _ _ may).0 first)
+  stage_any d d' None account sound may first staged = absurd (no_first d.lists.queued (and_parts _ _ may).0 (sym first))
   stage_any d d' (Some id) account sound may first staged =
       let there = first_there is_queued refl d.requests d.lists.queued id (sym first) sound.queued in
       stage_serves d d' id there.0 (account there.0) there.1 (sym first) (staged there.0 there.1)
 
   no_cancel : (d : Driving S F) (ids : List WaiterId) → None ≡ first_of ids → (has_first ids || may_stage_one d) ≡ true → may_stage_one d ≡ true
-  no_cancel d [] first some = some
-  no_cancel d (x ∷ ids) first some = absurd (cc)
+  no_cancel = grind arith
 
   -- and nothing changed where there was none
   pub none_staged : (d d' : Driving S F) (o : Option WaiterId) → is_none o ≡ true → o ≡ first_of d.lists.cancels → IfNone o (d' ≡ d) → (has_first d.lists.cancels || may_stage_one d) ≡ true → (d' ≡ d) × (may_stage_one d ≡ true)
-  none_staged d d' None none first is some = (is, no_cancel d d.lists.cancels first some)
-  none_staged d d' (Some id) none first is some = absurd (false≢true none)
+  none_staged = grind (arith, no_cancel)
 
   -- where no cancel is to be staged, a request is
   pub stage_none : (d e f : Driving S F) (o p : Option WaiterId) (account : Waiter S F → Option Account) → is_none o ≡ true → o ≡ first_of d.lists.cancels → IfNone o (e ≡ d) → (has_first d.lists.cancels || may_stage_one d) ≡ true → IsSound d → p ≡ first_of e.lists.queued → IfSome p (λ id. (w : Waiter S F) → request_at e id ≡ Some w → StagesOne e f id w (account w)) → Stages d f × (unstaged f < unstaged d)
@@ -222,8 +208,7 @@ module _ {S F : Type 0} where
   pending_entered false d = refl
 
   armed_entered : (b : Bool) (d : Driving S F) → (cond b (entered d) d).armed ≡ d.armed
-  armed_entered true d = refl
-  armed_entered false d = refl
+  armed_entered = grind arith
 
   -- a queue that is entered where it is full leaves as much pending
   pub way_may : (d d' : Driving S F) → d' ≡ record (made_way d) { landings = d'.landings } → may_wait d ≡ (not (has_pending d') && (d'.armed || not (is_full d')))

@@ -26,7 +26,7 @@
 //! Each says what the next step is for by the tests beside it. Only `new` and `admit` take memory. Moments are in
 //! nanoseconds.
 
-ghost use Rattle.std.specs.Prelude.{◌≡◌, ◌+◌, ◌==◌, not, IfOk, IfErr, IsTrue, IsSome, ◌↔◌};
+ghost use Rattle.std.specs.Prelude.{◌≡◌, ◌+◌, ◌==◌, ◌&&◌, not, IfOk, IfErr, IsTrue, IsSome, ◌↔◌};
 ghost use Rattle.exec_ring.specs.{Kernels.{with_wake, is_quiet}, Rings.fresh as fresh_ring, Stores.Same};
 ghost use Rattle.exec_time.specs.{Layouts.slots_of, Wheel.{IsSettled, next_moment}};
 ghost use Rattle.exec_waiters.specs.States.{pending_count};
@@ -155,6 +155,13 @@ impl<R: Ring + Drop, S: Drop, F: Drop> Driver<R, S, F> {
         ensures { result ≡ (pending_count (seen self.now).requests == 0) }
     {
         self.waiters.is_empty()
+    }
+
+    // Whether requests stand though a service left its last enter out.
+    fn is_put_off(&self, enters: bool) -> bool
+        ensures { result ≡ (not enters && not (pending_count (seen self.now).requests == 0)) }
+    {
+        !enters && !self.is_empty()
     }
 
     /// Whether a request is to be enrolled, cancelled or staged, and could be. What is staged isn't pending.

@@ -1,16 +1,7 @@
 -- What holds of each request, or of each but one: how it goes on holding as the slab of requests changes. And what holds
 -- of each driver, after a call on one.
-use Rattle.std.proofs.Common.{◌≡◌, ◌≢◌, ℕ, Bool, true, false, List, [], ◌∷◌, ◌++◌, length, set, Option, Some, None, refl, sym, ap, subst, ◌∙◌, inl, inr, arith, length-append, length-set}
-use Rattle.std.proofs.lemmas.Bool.{cases_lt}
-use Rattle.std.proofs.lemmas.Grind.{get_or-set_at}
-use Rattle.std.proofs.lemmas.List.{get_or_past, get_or_push, get_or_append_left, get_or-set_other}
-use Rattle.exec_base.specs.{Slab.{value_in, removed, freed, filled, generation_of, slot_at, next_id}, declared.slab.Slot.{Slot, TheVariants.{Live}}}
-use Rattle.exec_base.proofs.Slots.{some_of_if}
-use Rattle.exec_request.specs.declared.output.RequestOutput.{RequestOutput}
-use Rattle.exec_waiters.specs.Events.{finished_for, taken_from, forwarded_from, orphaned_from, changed_from, with_observer, with_waker}
-use Rattle.exec_lists.specs.Lists.{is_same}
-use Rattle.exec_driver.proofs.Words.{TaskNo, Slab, value_at, written, Id, waiter_at, waiter_in, waiter_of, Waiter, Entry, Pending, WaiterId, Driving, Observer, eqb_tells}
-use Rattle.exec_driver_laws.specs.Sharing.{Gates, CallsOne}
+use Rattle.std.proofs.Common.{◌≡◌, ◌≢◌, ℕ, zero, suc, Bool, true, false, List, [], ◌∷◌, ◌++◌, length, set, Option, Some, None, refl, sym, ap, subst, ◌∙◌, inl, inr, arith, length-append, length-set}
+use Rattle.exec_driver_laws.{proofs.Words.{Says, cases_lt, get_or-set_at, get_or_past, get_or_push, get_or_append_left, get_or-set_other, value_in, removed, freed, filled, generation_of, slot_at, next_id, Slot, Live, some_of_if, RequestOutput, finished_for, taken_from, forwarded_from, orphaned_from, changed_from, with_observer, with_waker, is_same, TaskNo, Slab, value_at, written, Id, waiter_at, waiter_in, waiter_of, Waiter, Entry, Pending, WaiterId, Driving, Observer, eqb_tells}, specs.Sharing.{Gates, CallsOne, IsRun}}
 
 module _ {S F : Type 0} where
   abbrev pub Holds : (WaiterId → Option (Waiter S F) → Bool) → Slab (Entry S F) → Type 0
@@ -26,6 +17,10 @@ module _ {S F : Type 0} where
         | inr apart ↦ subst P (sym (calls.others i apart.1)) (all i)
         | inl same ↦ subst (λ (n : ℕ). P (drivers' n)) (sym same.1) here
       ]
+
+  pub says_always : (drivers : ℕ → ℕ → Driving S F) (g : ℕ → Gates) → IsRun drivers g → (n i : ℕ) → Says (drivers n i)
+  says_always drivers g run zero i = run.first.says i
+  says_always drivers g run (suc n) i = each Says (run.next n) (run.next n).says (says_always drivers g run n) i
 
   -- one slot became another, or one more came: it holds of what is in it, and held of what is in the others
   set_holds : (q : Option (Waiter S F) → Bool) (s s' : Slab (Entry S F)) (i : ℕ) (slot : Slot (Entry S F)) (j : Id) → s'.slots ≡ set s.slots i slot → s'.first ≡ s.first

@@ -1,22 +1,14 @@
--- Who has joined the line of its open stands there until it is over.
+-- Calls on an open alone, who holds a gate, and who has joined a line: he stands there until he is over.
 use Rattle.std.proofs.Common.{◌≡◌, ◌≢◌, ℕ, zero, suc, ◌<◌, ◌^◌, Bool, true, false, cond, List, [], ◌∷◌, ◌++◌, ◌-◌, drop, slice_get, Option, Some, None, refl, sym, ap, subst, ◌∙◌, ◌⊎◌, inl, inr, arith}
-use Rattle.std.specs.{List.Contains, Option.option_map, Prelude.is_none}
-use Rattle.std.proofs.lemmas.{Bool.cases_lt, List.Elements.{Contains-append_left, Contains-push}}
-use Rattle.exec_request.specs.{Requests.{gate_of, record_after}}
-use Rattle.exec_waiters.specs.States.{gate_in}
-use Rattle.exec_opens.specs.{Opens.{holder_at, joined, keeping, open_at, open_named, passed, placed, with_named, with_open, writing}, declared.opens.WaiterKey.WaiterKey}
-use Rattle.exec_opens.proofs.Lines.{set_there}
-use Rattle.exec_driver.specs.{Steps.{ReapsNext, opens_after_end, plainly_written}, declared.driver.reaping.Reaped.Reaped}
-use Rattle.exec_driver.proofs.Granting.{same_some}
-use Rattle.exec_driver.proofs.Words.{Account, Deferred, Driving, Ended, OpenState, Waiter, account_in, file_of, open_after, request_at, with_account, with_permit}
-use Rattle.exec_driver_laws.specs.Sharing.{Call, Admit, Join, Observe, SetWaker, Forward, Orphan, Expire, Enrol, Grant, Stage, Land, Reap, SetAccount, Recount, Leave, Other, Gates, IsRun, StandsAt, StandsIn, joined_by, key_of, passed_on}
-use Rattle.exec_driver_laws.proofs.{Calling.reap_tells, Once.stays_gone, Sharing.line_up_always, Standing.open_tells}
+use Rattle.exec_driver_laws.{proofs.{Words.{Contains, option_map, is_none, cases_lt, Contains-append_left, Contains-push, gate_of, gate_in, holder_at, joined, open_at, open_named, passed, with_named, with_open, WaiterKey, set_there, same_some, Driving, OpenState, Waiter, request_at}, Once.stays_gone, Sharing.{call_lines, line_up_always}, Standing.{open_tells, joined_holds}}, specs.Sharing.{Call, Join, Leave, Gates, IsRun, StandsAt, StandsIn, joined_by, key_of, passed_on}}
+
+module _ {S F : Type 0} where
+  pub holds_on : (worker : ℕ) (old new : Driving S F) (g g' : Gates) → Call worker old new g g' → (file : ℕ) (key : WaiterKey) → g.leaving file ≡ None → holder_at g.opens file ≡ Some key → holder_at g'.opens file ≡ Some key
+  holds_on worker old new g g' (Join id fits same is) file key stays holds = grind (arith, open_tells, joined_holds)
+  holds_on worker old new g g' (Leave id gate leaves same is) file key stays holds = grind (arith, open_tells)
+  holds_on worker old new g g' other file key stays holds = (call_lines worker old new g g' other refl).holder file ∙ holds
 
 -- ONE OPEN: who stands in its line stays there
-
-same_line : (o o' : OpenState) (key : WaiterKey) → o'.holder ≡ o.holder → o'.waiting ≡ o.waiting → StandsIn key (Some o) → StandsIn key (Some o')
-same_line o o' key holder waiting (inl holds) = inl (holder ∙ holds)
-same_line o o' key holder waiting (inr waits) = inr (subst (λ (ks : List WaiterKey). Contains ks key) (sym waiting) waits)
 
 still : (other : WaiterKey) (o : OpenState) (key : WaiterKey) → StandsIn key (Some o) → StandsIn key (Some (joined other o))
 still other o key stands = by (is_none o.holder) refl stands
@@ -43,31 +35,14 @@ next_or_behind (x ∷ rest) key (suc k, within, is) = inr (k, omega (arith, with
 
 name_stands : (opens : List OpenState) (file : ℕ) (name : Option ℕ) (change : OpenState → OpenState) (key : WaiterKey) → ((o : OpenState) → StandsIn key (Some o) → StandsIn key (Some (change o))) → StandsAt opens file key
     → StandsAt (with_named opens name change) file key
-name_stands opens file None change key keeps stands = stands
-name_stands opens file (Some name) change key keeps stands =
-    elim (open_tells opens name change file) [
-      | inl same ↦ subst (StandsIn key) (sym same) stands
-      | inr there ↦ subst (StandsIn key) (sym there.3) (keeps there.0 (subst (StandsIn key) (ap (open_at opens) there.1 ∙ there.2) stands))
-    ]
-
-account_stands : (opens : List OpenState) (file : ℕ) (name : Option ℕ) (account : Option Account) (key : WaiterKey) → StandsAt opens file key → StandsAt (with_account opens name account) file key
-account_stands opens file name account key stands = name_stands opens file name (keeping account) key (λ o. same_line o (keeping account o) key refl refl) stands
+name_stands = grind (arith, open_tells)
 
 by_gates : (g' g : Gates) (file : ℕ) (key : WaiterKey) → g' ≡ g → StandsAt g.opens file key → StandsAt g'.opens file key
 by_gates g' g file key same stands = subst (λ (h : Gates). StandsAt h.opens file key) (sym same) stands
 
 -- its holder alone leaves
 passed_stands : (opens : List OpenState) (file gate : ℕ) (key : WaiterKey) → (file ≡ gate → holder_at opens file ≡ Some key → ⊥) → StandsAt opens file key → StandsAt (with_open opens gate passed) file key
-passed_stands opens file gate key other stands =
-    elim (open_tells opens gate passed file) [
-      | inl same ↦ subst (StandsIn key) (sym same) stands
-      | inr there ↦
-          subst (StandsIn key) (sym there.3) (
-          elim (subst (StandsIn key) (ap (open_at opens) there.1 ∙ there.2) stands) [
-            | inl holds ↦ absurd (other there.1 (ap (λ (n : ℕ). holder_at opens n) there.1 ∙ (rw there.2 holds)))
-            | inr waits ↦ next_or_behind there.0.waiting key waits
-          ])
-    ]
+passed_stands = grind (arith, open_tells, next_or_behind)
 
 -- it joins the line of an open that is there
 joins_line : (opens : List OpenState) (gate : Option ℕ) (who key : WaiterKey) → option_map (λ (o : OpenState). who) (open_named opens gate) ≡ Some key → (who ≡ key) × ((file : ℕ) × StandsAt (with_named opens gate (joined who)) file who)
@@ -85,46 +60,13 @@ abbrev Hold : Gates → Type 0
 Hold g = (k : WaiterKey) (gate : ℕ) → g.leaving gate ≡ Some k → holder_at g.opens gate ≡ Some k
 
 module _ {S F : Type 0} where
-  end_stands : (opens : List OpenState) (file : ℕ) (w : Waiter S F) (how : Option Ended) (key : WaiterKey) → StandsAt opens file key → StandsAt (opens_after_end opens w how) file key
-  end_stands opens file w None key stands = stands
-  end_stands opens file w (Some how) key stands = account_stands opens file (file_of w.request) (record_after w.request how (account_in opens (file_of w.request))) key stands
-
-  reap_stands : (old new : Driving S F) (opens opens' : List OpenState) (before after : Deferred S F) (told : Option Reaped) (file : ℕ) (key : WaiterKey) → ReapsNext old new opens opens' before after told
-      → StandsAt opens file key → StandsAt opens' file key
-  reap_stands old new opens opens' before after told file key reap stands =
-      elim (reap_tells old new opens opens' before after told reap) [
-        | inl none ↦ subst (λ (o : List OpenState). StandsAt o file key) (sym none.same) stands
-        | inr there ↦
-            let account = open_after there.w there.given (account_in opens (file_of there.w.request)) in
-            subst (λ (o : List OpenState). StandsAt o file key) (sym there.reaps.opens_after)
-            (end_stands (with_account opens (file_of there.w.request) account) file (record there.w { in_flight = false; request = there.reaps.request }) there.reaps.answer key (account_stands opens file (file_of there.w.request) account key stands))
-      ]
-
   pub stands_on : (worker : ℕ) (old new : Driving S F) (g g' : Gates) → Call worker old new g g' → Hold g → (file : ℕ) (key : WaiterKey) → g.leaving file ≢ Some key → StandsAt g.opens file key → StandsAt g'.opens file key
-  stands_on worker old new g g' (Admit id request observer now next within never admits leaving) hold file key stays stands =
-      let made = name_stands g.opens file (gate_of request) placed key (λ o. same_line o (placed o) key refl refl) stands in
-      subst (λ (o : List OpenState). StandsAt o file key) (sym admits.opens_after)
-      (name_stands (with_named g.opens (gate_of request) placed) file (plainly_written request) writing key (λ o. same_line o (writing o) key refl refl) made)
   stands_on worker old new g g' (Join id fits same is) hold file key stays stands =
       by_gates g' _ file key is (name_stands g.opens file (gate_in (request_at old id)) (joined (key_of worker id)) key (λ o has. still (key_of worker id) o key has) stands)
-  stands_on worker old new g g' (Grant before after gate granted w at grants leaving) hold file key stays stands =
-      subst (λ (o : List OpenState). StandsAt o file key) (sym (grants.grants w at).opens_after) (end_stands g.opens file (with_permit w) granted.ended key stands)
-  stands_on worker old new g g' (Reap before after told reap leaving) hold file key stays stands = reap_stands old new g.opens g'.opens before after told file key reap stands
-  stands_on worker old new g g' (SetAccount name account same is) hold file key stays stands = by_gates g' _ file key is (account_stands g.opens file name account key stands)
-  stands_on worker old new g g' (Recount name change keeps same is) hold file key stays stands =
-      by_gates g' _ file key is (name_stands g.opens file name change key (λ o. same_line o (change o) key (keeps o).holder (keeps o).waiting) stands)
   stands_on worker old new g g' (Leave id gate leaves same is) hold file key stays stands =
       let other : file ≡ gate → holder_at g.opens file ≡ Some key → ⊥ = λ here holds. stays (ap g.leaving here ∙ leaves ∙ sym (hold (key_of worker id) gate leaves) ∙ ap (holder_at g.opens) (sym here) ∙ holds) in
       by_gates g' (passed_on g gate) file key is (passed_stands g.opens file gate key other stands)
-  stands_on worker old new g g' (Observe id is same) hold file key stays stands = by_gates g' g file key same stands
-  stands_on worker old new g g' (SetWaker id task is same) hold file key stays stands = by_gates g' g file key same stands
-  stands_on worker old new g g' (Forward id sender is same) hold file key stays stands = by_gates g' g file key same stands
-  stands_on worker old new g g' (Orphan id is same) hold file key stays stands = by_gates g' g file key same stands
-  stands_on worker old new g g' (Expire id first is same) hold file key stays stands = by_gates g' g file key same stands
-  stands_on worker old new g g' (Enrol before after id w deadline now told first at timed enrols same) hold file key stays stands = by_gates g' g file key same stands
-  stands_on worker old new g g' (Stage id w account first at stages same) hold file key stays stands = by_gates g' g file key same stands
-  stands_on worker old new g g' (Land id w given store store' at may lands same) hold file key stays stands = by_gates g' g file key same stands
-  stands_on worker old new g g' (Other is keeps lawful places same) hold file key stays stands = by_gates g' g file key same stands
+  stands_on worker old new g g' other hold file key stays stands = (call_lines worker old new g g' other refl).stood file key stands
 
   -- a request of the worker that is there stands in a line after the call
   record JoinsHere (worker : ℕ) (old : Driving S F) (g' : Gates) (key : WaiterKey) : Type 0 where

@@ -1,26 +1,107 @@
--- A write or a sync that is there goes on being there after each call, unless a grant or a reap says that it ended.
-use Rattle.std.proofs.Common.{◌≡◌, ◌≢◌, ◌⊎◌, ℕ, suc, Bool, true, false, cond, List, Option, Some, None, Result, Ok, Err, refl, sym, ap, subst, ◌∙◌, inl, inr, arith, length-append}
-use Rattle.std.specs.{Option.{option_map}, Prelude.{IsSomeAnd}}
-use Rattle.std.proofs.lemmas.Bool.{cases_lt, false≢true}
-use Rattle.std.proofs.lemmas.List.{get_or_past, get_or_push, get_or_append_left, get_or-set_other}
-use Rattle.exec_base.specs.{Slab.{removed, next_id, IsPast, filled}, declared.{error.Error.Error}}
-use Rattle.exec_base.proofs.Slots.{some_of_if}
-use Rattle.exec_request.specs.{Requests.{goes_on_alone}, declared.output.RequestOutput.RequestOutput}
-use Rattle.exec_waiters.specs.{Events.{finished, finished_for, taken_from, forwarded_from, orphaned_from, changed_from, with_waker, with_observer}, States.{is_local, is_held_by}}
-use Rattle.exec_opens.specs.declared.opens.WaiterKey.{WaiterKey}
-use Rattle.exec_lists.proofs.{Counting.{OneChanged, one_written, one_removed}, Names.same_tells}
-use Rattle.exec_driver.specs.Steps.{permitted, landed_at, told_as, taken_in, newcomer, cancelling, cancelled_from, timed_out, cancelled_at, let_go, without_observer, enrolled_by, queued_or_ended, placed_at}
-use Rattle.exec_driver.proofs.Words.{with_permit, taken_out, open_after, account_in, file_of, after_enrolment, after_due, tick_for, asks_cancel}
-use Rattle.exec_driver.proofs.Words.{asks_cancel_by_orphan, Request, Ready, Forwarded, Orphaned, with_tick, cancelled, TaskNo, Ended}
-use Rattle.exec_driver.proofs.Words.{Account, Slab, value_at, written, Id, waiter_at, waiter_in, waiter_of, Waiter, Entry, Pending, WaiterId, Driving, request_at, Observer, deadline_of, entry_of, eqb_tells}
-use Rattle.exec_driver.proofs.{Arriving.placed_is, Endings.{one_changed, one_finished}}
-use Rattle.exec_driver_laws.proofs.Uncancelled.{let_go_alone, alone_kept, alone_moved, IsSpared, all_spared}
-use Rattle.exec_driver_laws.specs.Sharing.{Call, Admit, Join, Observe, SetWaker, Forward, Orphan, Expire, Enrol, Grant, Stage, Land, Reap, SetAccount, Recount, Leave, Other, Gates, key_of, end_by, end_told, IsRun}
-use Rattle.exec_driver_laws.proofs.Calling.{reap_tells}
-use Rattle.exec_driver.specs.declared.driver.reaping.Reaped.{Reaped}
+-- What calls keep: no write or sync was cancelled, and each is there until a grant or a reap says that it ended; and an
+-- output that is kept stays kept until somebody looks, forwards it or lets it go.
+use Rattle.std.proofs.Common.{◌≡◌, ◌≢◌, ◌⊎◌, ℕ, suc, Bool, true, false, List, Option, Some, None, refl, sym, ap, subst, ◌∙◌, inl, inr, arith, length-append, IsSome, zero, not, ◌&&◌}
+use Rattle.exec_driver_laws.{proofs.{Words.{Says, IsSomeAnd, cases_lt, false≢true, get_or_past, get_or_push, get_or_append_left, get_or-set_other, removed, next_id, IsPast, filled, some_of_if, goes_on_alone, RequestOutput, finished, finished_for, WaiterKey, OneChanged, one_removed, same_tells, taken_in, newcomer, placed_at, Request, Ready, Ended, Account, Slab, value_at, written, Id, waiter_at, waiter_in, Waiter, Entry, Pending, WaiterId, Driving, request_at, Observer, deadline_of, eqb_tells, placed_is, one_changed, one_finished, freed, Updates, Changed-set, Updates-free, Updates-write, output_of, at_by, others, entry_of, waiter_of, not-true, asks_cancel}, Passing.{Becomes, Passes, each_call}, Everywhere.{says_always, Holds, each, became, filled_all, finished_all, removed_all}, Standing.{none_past, reads}}, specs.Sharing.{Call, Gates, key_of, end_by, lets_out, IsRun, AreFresh}}
 
-brief : (r : Request) (deadline : ℕ) → deadline_of r ≡ Some deadline → goes_on_alone r ≡ false
-brief = grind arith
+module _ {S F : Type 0} where
+  -- it is no write or sync that was cancelled
+  abbrev is_whole : WaiterId → Option (Waiter S F) → Bool
+  is_whole j None = true
+  is_whole j (Some w) = not (goes_on_alone w.request && asks_cancel w.state)
+
+  abbrev NoneBroken : Slab (Entry S F) → Type 0
+  NoneBroken s = Holds is_whole s
+
+  still_whole : (old : Driving S F) (w w' : Waiter S F) → Says old → Becomes old w w' → not (goes_on_alone w.request && asks_cancel w.state) ≡ true → not (goes_on_alone w'.request && asks_cancel w'.state) ≡ true
+  still_whole = grind arith
+
+  passes_whole : (old : Driving S F) → Says old → (worker : ℕ) (told : Option (WaiterKey × Ended)) (out : Option WaiterId) → Passes old (Becomes old) worker told out NoneBroken
+  passes_whole old says worker told out =
+      record {
+        becomes = λ s id w w' at becomes. became is_whole (λ j. refl) id s w w' at (still_whole old w w' says becomes);
+        ends = λ s id w how account at idle brief none. finished_all is_whole (λ j. refl) id s (output_of w.request how account) w.observer (λ j other. none j);
+        leaves = λ s id output at lets none. removed_all is_whole (λ j. refl) id s (λ j other. none j);
+        room = λ s room none. none;
+      }
+
+  placed_whole : (d : Driving S F) (id : WaiterId) (w : Waiter S F) (now : ℕ) → NoneBroken d.requests → NoneBroken (placed_at d id w now).requests
+  placed_whole d id w now none = grind (arith, placed_is, deadline_of, finished_all is_whole (λ j. refl) id d.requests, none)
+
+  comes_whole : (d : Driving S F) (id : WaiterId) (r : Request) (observer : Observer S F) (now : ℕ) → next_id d.requests ≡ Some id.0 → NoneBroken d.requests → NoneBroken (placed_at (taken_in d r observer) id (newcomer r observer) now).requests
+  comes_whole d id r observer now next none = placed_whole (taken_in d r observer) id (newcomer r observer) now (filled_all is_whole (λ j. refl) id d.requests d.requests.vacant (Pending (newcomer r observer)) next (grind arith) none)
+
+  none_at_first : (drivers : ℕ → Driving S F) (g : Gates) → AreFresh drivers g → (i : ℕ) → NoneBroken (drivers i).requests
+  none_at_first = grind (arith, none_past, reads)
+
+  none_broken : (drivers : ℕ → ℕ → Driving S F) (g : ℕ → Gates) → IsRun drivers g → (n i : ℕ) → NoneBroken (drivers n i).requests
+  none_broken drivers g run zero i = none_at_first (drivers 0) (g 0) run.first i
+  none_broken drivers g run (suc n) i =
+      let calls = run.next n in
+      let old = drivers n calls.worker in
+      each (λ d. NoneBroken d.requests) calls
+      (each_call calls.worker old _ _ _ calls.call NoneBroken (passes_whole old (says_always drivers g run n calls.worker) calls.worker (end_by calls.call) (lets_out calls.call)) (λ id r observer now next never. comes_whole old id r observer now next) (none_broken drivers g run n calls.worker))
+      (none_broken drivers g run n) i
+
+  pub never_cancelled : (drivers : ℕ → ℕ → Driving S F) (g : ℕ → Gates) → IsRun drivers g → (n i : ℕ) (id : WaiterId) (w : Waiter S F) → request_at (drivers n i) id ≡ Some w → goes_on_alone w.request ≡ true → asks_cancel w.state ≡ false
+  never_cancelled drivers g run n i id w at alone = not-true _ (rw (at, alone) at (none_broken drivers g run n i id))
+
+module _ {S F : Type 0} where
+  abbrev Keeps : Slab (Entry S F) → Slab (Entry S F) → Type 0
+  Keeps s s' = (j : Id) (output : RequestOutput) → value_at s j ≡ Some (Ready output) → value_at s' j ≡ Some (Ready output)
+
+  differs : (s : Slab (Entry S F)) (i j : Id) (w : Waiter S F) (output : RequestOutput) → waiter_at s i ≡ Some w → value_at s j ≡ Some (Ready output) → j ≢ i
+  differs s i j w output at ready same = let both : None ≡ Some w = sym (ap waiter_of ready) ∙ ap (λ (k : Id). waiter_at s k) same ∙ at in cc
+
+  there : (s : Slab (Entry S F)) (i : Id) (w : Waiter S F) → waiter_at s i ≡ Some w → IsSome (value_at s i)
+  there s i w at = rw (entry_of _ w at) refl
+
+  written_stays : (s : Slab (Entry S F)) (i : Id) (w : Waiter S F) (e : Entry S F) → waiter_at s i ≡ Some w → Keeps s (written s i e)
+  written_stays s i w e at j output ready = (Updates-write s i e (there s i w at)).others j (differs s i j w output at ready) ∙ ready
+
+  finished_stays : (s : Slab (Entry S F)) (i : Id) (w : Waiter S F) (told : RequestOutput) (observer : Observer S F) → waiter_at s i ≡ Some w → Keeps s (finished_for s i told observer)
+  finished_stays s i w told observer at j output ready = others s i j w told observer at (differs s i j w output at ready) ∙ ready
+
+  goes_at : (s : Slab (Entry S F)) (i : Id) (e : Entry S F) → value_at s i ≡ Some e → Updates s (removed s i) i None
+  goes_at s i e at =
+      let there = at_by s i e at in
+      Updates-free s (removed s i) i e (Changed-set s (removed s i) i.index (freed i.generation) refl refl there.within) there.slot
+
+  removed_but : (s : Slab (Entry S F)) (i j : Id) (e e' : Entry S F) → value_at s i ≡ Some e' → j ≢ i → value_at s j ≡ Some e → value_at (removed s i) j ≡ Some e
+  removed_but s i j e e' at other ready = (goes_at s i e' at).others j other ∙ ready
+
+  -- who comes in takes no slot of an output
+  apart : (s : Slab (Entry S F)) (id j : Id) (e : Entry S F) → next_id s ≡ Some id → (IsPast s id → ⊥) → value_at s j ≡ Some e → j.index ≢ id.index
+  apart = grind (arith, some_of_if)
+
+  pub filled_apart : (s : Slab (Entry S F)) (vacant : List ℕ) (id j : Id) (e : Entry S F) → next_id (record s { vacant = vacant }) ≡ Some id → j.index ≢ id.index → value_at (filled s vacant e) j ≡ value_at s j
+  filled_apart = grind (arith, some_of_if, cases_lt, eqb_tells, get_or_append_left, get_or_push, get_or_past, length-append, get_or-set_other)
+
+  finished_apart : (s : Slab (Entry S F)) (id j : Id) (told : RequestOutput) (observer : Observer S F) → j.index ≢ id.index → value_at (finished_for s id told observer) j ≡ value_at s j
+  finished_apart = grind (arith, get_or-set_other)
+
+  pub placed_apart : (d : Driving S F) (id : WaiterId) (j : Id) (w : Waiter S F) (now : ℕ) → j.index ≢ id.0.index → value_at (placed_at d id w now).requests j ≡ value_at d.requests j
+  placed_apart = grind (arith, placed_is, deadline_of, finished_apart)
+
+  -- EACH CALL
+
+  passes_output : (old : Driving S F) (worker : ℕ) (told : Option (WaiterKey × Ended)) (out : Option WaiterId) (j : WaiterId) (output : RequestOutput) → out ≢ Some j → Passes old (Becomes old) worker told out (λ s. value_at s j.0 ≡ Some (Ready output))
+  passes_output old worker told out j output other =
+      record {
+        becomes = λ s id w w' at becomes. written_stays s id.0 w (Pending w') at j.0 output;
+        ends = λ s id w how account at idle over. finished_stays s id.0 w (output_of w.request how account) w.observer at j.0 output;
+        leaves = λ s id told at lets. removed_but s id.0 j.0 (Ready output) (Ready told) at (λ same. other (lets ∙ ap (λ (i : Id). let k : WaiterId = record { 0 = i } in Some k) (sym same)));
+        room = λ s room ready. ready;
+      }
+
+  comes_in : (d : Driving S F) (id : WaiterId) (j : Id) (r : Request) (observer : Observer S F) (now : ℕ) (output : RequestOutput) → next_id d.requests ≡ Some id.0 → (IsPast d.requests id.0 → ⊥) → value_at d.requests j ≡ Some (Ready output)
+      → value_at (placed_at (taken_in d r observer) id (newcomer r observer) now).requests j ≡ Some (Ready output)
+  comes_in d id j r observer now output next never ready =
+      let away = apart d.requests id.0 j (Ready output) next never ready in
+      placed_apart (taken_in d r observer) id j (newcomer r observer) now away ∙ filled_apart d.requests d.requests.vacant id.0 j (Pending (newcomer r observer)) next away ∙ ready
+
+  pub stays : (worker : ℕ) (old new : Driving S F) (g g' : Gates) (call : Call worker old new g g') (j : WaiterId) (output : RequestOutput) → lets_out call ≢ Some j → value_at old.requests j.0 ≡ Some (Ready output) → value_at new.requests j.0 ≡ Some (Ready output)
+  stays worker old new g g' call j output other =
+      each_call worker old new g g' call (λ s. value_at s j.0 ≡ Some (Ready output)) (passes_output old worker (end_by call) (lets_out call) j output other) (λ id r observer now. comes_in old id j.0 r observer now output)
 
 module _ {S F : Type 0} where
   -- a write or a sync
@@ -40,17 +121,6 @@ module _ {S F : Type 0} where
         | inr other ↦ ap lasts (one.others j other.1) ∙ at
       ]
 
-  either : (b : Bool) (s : Slab (Entry S F)) (one other : Driving S F) → Last s one.requests → Last s other.requests → Last s (cond b one other).requests
-  either true s one other first second = first
-  either false s one other first second = second
-
-  held : (b : Bool) (s one other : Slab (Entry S F)) → Last s one → Last s other → Last s (cond b one other)
-  held true s one other first second = first
-  held false s one other first second = second
-
-  written_lasts : (s : Slab (Entry S F)) (id : Id) (was is : Entry S F) → value_at s id ≡ Some was → (lasts (waiter_in was) ≡ true → lasts (waiter_in is) ≡ true) → Last s (written s id is)
-  written_lasts s id was is at kept = one_lasts s _ id _ _ (one_written s id was is at) kept
-
   removed_lasts : (s : Slab (Entry S F)) (id : Id) (was : Entry S F) → value_at s id ≡ Some was → lasts (waiter_in was) ≡ false → Last s (removed s id)
   removed_lasts s id was at none = one_lasts s _ id _ _ (one_removed s id was at) (λ has. absurd (false≢true (sym none ∙ has)))
 
@@ -60,71 +130,10 @@ module _ {S F : Type 0} where
   became_lasts : (s : Slab (Entry S F)) (id : Id) (w w' : Waiter S F) → waiter_at s id ≡ Some w → goes_on_alone w'.request ≡ goes_on_alone w.request → Last s (written s id (Pending w'))
   became_lasts s id w w' at same = one_lasts s _ id _ _ (one_changed s id w w' at) (λ has. same ∙ has)
 
-  taken_lasts : (s : Slab (Entry S F)) (id : Id) (o : Option (Entry S F)) → value_at s id ≡ o → Last s (taken_from s id o)
-  taken_lasts s id None at = λ j was. was
-  taken_lasts s id (Some (Pending w)) at = λ j was. was
-  taken_lasts s id (Some (Ready told)) at = removed_lasts s id (Ready told) at refl
-
-  waked_lasts : (s : Slab (Entry S F)) (id : Id) (task : TaskNo) (o : Option (Entry S F)) → value_at s id ≡ o → Last s (changed_from s id (with_waker task) o)
-  waked_lasts s id task None at = λ j was. was
-  waked_lasts s id task (Some (Pending w)) at = written_lasts s id (Pending w) (Pending (with_waker task w)) at (λ has. has)
-  waked_lasts s id task (Some (Ready told)) at = λ j was. was
-
-  forwarded_lasts : (s : Slab (Entry S F)) (id : Id) (sender : F) (o : Option (Entry S F)) → value_at s id ≡ o → Last s (forwarded_from s id sender o)
-  forwarded_lasts s id sender None at = λ j was. was
-  forwarded_lasts s id sender (Some (Pending w)) at = held (is_local w.observer) s _ s (written_lasts s id (Pending w) (Pending (with_observer (Forwarded sender) w)) at (λ has. has)) (λ j was. was)
-  forwarded_lasts s id sender (Some (Ready told)) at = removed_lasts s id (Ready told) at refl
-
-  orphaned_lasts : (s : Slab (Entry S F)) (id : Id) (o : Option (Entry S F)) → value_at s id ≡ o → Last s (orphaned_from s id o)
-  orphaned_lasts s id None at = λ j was. was
-  orphaned_lasts s id (Some (Pending w)) at = held (is_held_by w.observer) s _ s (written_lasts s id (Pending w) (Pending (with_observer Orphaned w)) at (λ has. has)) (λ j was. was)
-  orphaned_lasts s id (Some (Ready told)) at = removed_lasts s id (Ready told) at refl
-
-  cancelled_lasts : (d : Driving S F) (id : WaiterId) (o : Option (Waiter S F)) → request_at d id ≡ o → lasts o ≡ false → Last d.requests (cancelled_from d id o).requests
-  cancelled_lasts d id None at none = λ j was. was
-  cancelled_lasts d id (Some w) at none =
-      let ends = finished_lasts d.requests id.0 w timed_out None at none in
-      let asks = became_lasts d.requests id.0 w (cancelled w) at refl in
-      either w.in_flight d.requests _ _ (either (asks_cancel w.state) d.requests d (cancelling d id w) (λ j was. was) asks) ends
-
-  nobody_asks : (o : Option (Entry S F)) → asks_cancel_by_orphan o ≡ true → waiter_of o ≡ None → ⊥
-  nobody_asks = grind arith
-
-  let_go_brief : (d : Driving S F) (id : WaiterId) → asks_cancel_by_orphan (value_at d.requests id.0) ≡ true → lasts (request_at (without_observer d id) id) ≡ false
-  let_go_brief d id asks = by (request_at (without_observer d id) id) (request_at d id) refl refl
-    where
-      by : (o v : Option (Waiter S F)) → request_at (without_observer d id) id ≡ o → request_at d id ≡ v → lasts o ≡ false
-      by None v there at = refl
-      by (Some w) None there at = absurd (nobody_asks (value_at d.requests id.0) asks at)
-      by (Some w) (Some v) there at = let_go_alone d id w v at (ap asks_cancel_by_orphan (sym (entry_of _ v at)) ∙ asks) there
-
-  let_go_lasts : (d : Driving S F) (id : WaiterId) → Last d.requests (let_go d id).requests
-  let_go_lasts d id = by (asks_cancel_by_orphan (value_at d.requests id.0)) refl
-    where
-      without : Last d.requests (without_observer d id).requests
-      without = orphaned_lasts d.requests id.0 (value_at d.requests id.0) refl
-
-      by : (b : Bool) → asks_cancel_by_orphan (value_at d.requests id.0) ≡ b → Last d.requests (cond b (cancelled_at (without_observer d id) id) (without_observer d id)).requests
-      by true asks = λ j was. cancelled_lasts (without_observer d id) id (request_at (without_observer d id) id) refl (let_go_brief d id asks) j (without j was)
-      by false asks = without
-
-  enrolled_lasts : (d : Driving S F) (id : WaiterId) (w : Waiter S F) (deadline : ℕ) (tick : Result ℕ Error) → request_at d id ≡ Some w → deadline_of w.request ≡ Some deadline → Last d.requests (enrolled_by d id w tick).requests
-  enrolled_lasts d id w deadline (Ok tick) at timed = became_lasts d.requests id.0 w (with_tick tick w) at refl
-  enrolled_lasts d id w deadline (Err error) at timed = finished_lasts d.requests id.0 w (Err error) None at (brief w.request deadline timed)
-
   -- AN ADMISSION
 
-  apart : (s : Slab (Entry S F)) (id j : Id) → next_id s ≡ Some id → (IsPast s id → ⊥) → lasts (waiter_at s j) ≡ true → j.index ≢ id.index
-  apart = grind (arith, some_of_if)
-
-  pub filled_apart : (s : Slab (Entry S F)) (vacant : List ℕ) (id j : Id) (e : Entry S F) → next_id (record s { vacant = vacant }) ≡ Some id → j.index ≢ id.index → waiter_at (filled s vacant e) j ≡ waiter_at s j
-  filled_apart = grind (arith, some_of_if, cases_lt, eqb_tells, get_or_append_left, get_or_push, get_or_past, length-append, get_or-set_other)
-
-  finished_apart : (s : Slab (Entry S F)) (id j : Id) (told : RequestOutput) (observer : Observer S F) → j.index ≢ id.index → waiter_at (finished_for s id told observer) j ≡ waiter_at s j
-  finished_apart = grind (arith, get_or-set_other)
-
-  pub placed_apart : (d : Driving S F) (id : WaiterId) (j : Id) (w : Waiter S F) (now : ℕ) → j.index ≢ id.0.index → waiter_at (placed_at d id w now).requests j ≡ waiter_at d.requests j
-  placed_apart = grind (arith, placed_is, deadline_of, finished_apart)
+  apart_lasting : (s : Slab (Entry S F)) (id j : Id) → next_id s ≡ Some id → (IsPast s id → ⊥) → lasts (waiter_at s j) ≡ true → j.index ≢ id.index
+  apart_lasting = grind (arith, some_of_if)
 
   -- EACH CALL
 
@@ -132,71 +141,40 @@ module _ {S F : Type 0} where
   abbrev Spared : Slab (Entry S F) → WaiterKey → Option (WaiterKey × Ended) → Type 0
   Spared s key told = (lasts (waiter_at s key.id.0) ≡ true) ⊎ IsSomeAnd told (λ e. e.0 ≡ key)
 
-  over_lasts : (d : Driving S F) (worker : ℕ) (gone id : WaiterId) (w : Waiter S F) (how : Option Ended) (account : Option Account) → request_at d gone ≡ Some w → lasts (request_at d id) ≡ true
-      → Spared (queued_or_ended d gone w how account).requests (key_of worker id) (option_map {U = WaiterKey × Ended} (λ how. (key_of worker gone, how)) how)
-  over_lasts d worker gone id w None account there at = inl at
-  over_lasts d worker gone id w (Some how) account there at =
-      elim (same_tells id gone) [
-        | inl same ↦ inr (ap (key_of worker) (sym same.1))
-        | inr other ↦ inl (ap lasts ((one_finished d.requests gone.0 w how account there).others id.0 other.1) ∙ at)
+  still : (s s' : Slab (Entry S F)) (key : WaiterKey) (told : Option (WaiterKey × Ended)) → Last s s' → Spared s key told → Spared s' key told
+  still s s' key told last (inl has) = inl (last key.id.0 has)
+  still s s' key told last (inr tells) = inr tells
+
+  over : (s : Slab (Entry S F)) (worker : ℕ) (j id : WaiterId) (w : Waiter S F) (how : Ended) (account : Option Account) (told : Option (WaiterKey × Ended)) → waiter_at s id.0 ≡ Some w
+      → (goes_on_alone w.request ≡ false) ⊎ IsSomeAnd told (λ e. e.0 ≡ key_of worker id) → Spared s (key_of worker j) told → Spared (finished s id.0 w how account) (key_of worker j) told
+  over s worker j id w how account told at (inl brief) spared = still s (finished s id.0 w how account) (key_of worker j) told (finished_lasts s id.0 w how account at brief) spared
+  over s worker j id w how account told at (inr tells) (inr is) = inr is
+  over s worker j id w how account told at (inr tells) (inl has) =
+      elim (same_tells j id) [
+        | inl same ↦ inr (subst (λ (i : WaiterId). IsSomeAnd told (λ e. e.0 ≡ key_of worker i)) (sym same.1) tells)
+        | inr other ↦ inl (ap lasts ((one_finished s id.0 w how account at).others j.0 other.1) ∙ has)
       ]
 
-  as_told : (worker : ℕ) (gone : WaiterId) (w : Waiter S F) (how : Option Ended) (account : Option Account) (s : Slab (Entry S F)) (key : WaiterKey)
-      → Spared s key (option_map {U = WaiterKey × Ended} (λ how. (key_of worker gone, how)) how) → Spared s key (option_map {U = WaiterKey × Ended} (λ how. (key_of worker gone, how)) (told_as w how account))
-  as_told worker gone w None account s key spared = spared
-  as_told worker gone w (Some how) account s key spared = spared
+  passes : (old : Driving S F) → Says old → (worker : ℕ) (told : Option (WaiterKey × Ended)) (out : Option WaiterId) (j : WaiterId) → Passes old (Becomes old) worker told out (λ s. Spared s (key_of worker j) told)
+  passes old says worker told out j =
+      record {
+        becomes = λ s id w w' at becomes. still s (written s id.0 (Pending w')) (key_of worker j) told (became_lasts s id.0 w w' at becomes.alone);
+        ends = λ s id w how account at idle ended. over s worker j id w how account told at (ended says);
+        leaves = λ s id output at lets. still s (removed s id.0) (key_of worker j) told (removed_lasts s id.0 (Ready output) at refl);
+        room = λ s room spared. spared;
+      }
 
-  kept : (old new d : Driving S F) → new ≡ d → Last old.requests d.requests → (j : WaiterId) → lasts (request_at old j) ≡ true → lasts (request_at new j) ≡ true
-  kept old new d is last j at = ap (λ (m : Driving S F). lasts (request_at m j)) is ∙ last j.0 at
+  comes : (d : Driving S F) (worker : ℕ) (id j : WaiterId) (r : Request) (observer : Observer S F) (now : ℕ) (told : Option (WaiterKey × Ended)) → next_id d.requests ≡ Some id.0 → (IsPast d.requests id.0 → ⊥) → Spared d.requests (key_of worker j) told
+      → Spared (placed_at (taken_in d r observer) id (newcomer r observer) now).requests (key_of worker j) told
+  comes d worker id j r observer now told next never (inr tells) = inr tells
+  comes d worker id j r observer now told next never (inl at) =
+      let away = apart_lasting d.requests id.0 j.0 next never at in
+      inl (ap (λ (e : Option (Entry S F)). lasts (waiter_of e)) (placed_apart (taken_in d r observer) id j.0 (newcomer r observer) now away ∙ filled_apart d.requests d.requests.vacant id.0 j.0 (Pending (newcomer r observer)) next away) ∙ at)
 
-  brief_by : (o : Option (Waiter S F)) → ((w : Waiter S F) → o ≡ Some w → goes_on_alone w.request ≡ false) → lasts o ≡ false
-  brief_by None due = refl
-  brief_by (Some w) due = due w refl
-
-  call_lasts : (worker : ℕ) (old new : Driving S F) (g g' : Gates) (call : Call worker old new g g') → IsSpared old → (j : WaiterId) → lasts (request_at old j) ≡ true → Spared new.requests (key_of worker j) (end_by call)
-  call_lasts worker old new g g' (Admit id r observer now next within never admits leaving) spared j at =
-      let away = apart old.requests id.0 j.0 next never at in
-      let same = placed_apart (taken_in old r observer) id j.0 (newcomer r observer) now away ∙ filled_apart old.requests old.requests.vacant id.0 j.0 (Pending (newcomer r observer)) next away in
-      inl (ap (λ (m : Driving S F). lasts (request_at m j)) admits.driver ∙ ap lasts same ∙ at)
-  call_lasts worker old new g g' (Join id fits same is) spared j at = inl (kept old new old same (λ i was. was) j at)
-  call_lasts worker old new g g' (Observe id is same) spared j at = inl (kept old new _ is (taken_lasts old.requests id.0 (value_at old.requests id.0) refl) j at)
-  call_lasts worker old new g g' (SetWaker id task is same) spared j at = inl (kept old new _ is (waked_lasts old.requests id.0 task (value_at old.requests id.0) refl) j at)
-  call_lasts worker old new g g' (Forward id sender is same) spared j at = inl (kept old new _ is (forwarded_lasts old.requests id.0 sender (value_at old.requests id.0) refl) j at)
-  call_lasts worker old new g g' (Orphan id is same) spared j at = inl (kept old new _ is (let_go_lasts old id) j at)
-  call_lasts worker old new g g' (Expire id first is same) spared j at =
-      inl (kept old new _ is (cancelled_lasts (record old { lists = after_due old.lists }) id (request_at old id) refl (brief_by _ (λ w. spared.due id w first))) j at)
-  call_lasts worker old new g g' (Enrol before after id w deadline now told first there timed enrols same) spared j at =
-      inl (kept old new _ enrols.driver (enrolled_lasts (record old { lists = after_enrolment old.lists }) id w deadline (tick_for old.wheel deadline now) there timed) j at)
-  call_lasts worker old new g g' (Grant before after file granted w there grants leaving) spared j at =
-      let w' = with_permit w in
-      let gone = granted.id in
-      let now = (one_changed old.requests gone.0 w w' there).is_at in
-      subst (λ (m : Driving S F). Spared m.requests (key_of worker j) (option_map (λ how. (key_of worker gone, how)) granted.ended)) (sym (grants.grants w there).driver)
-      (over_lasts (permitted old gone w) worker gone j w' granted.ended (account_in g.opens (file_of w.request)) now (became_lasts old.requests gone.0 w w' there refl j.0 at))
-  call_lasts worker old new g g' (Stage id w account first there stages same) spared j at = inl (kept old new _ stages.driver (became_lasts old.requests id.0 w _ there (alone_kept w.request stages.request stages.kept)) j at)
-  call_lasts worker old new g g' (Land id w given store store' there may lands same) spared j at =
-      let moved = alone_moved _ given w.request lands.lands.request store store' lands.lands.moved in
-      inl (ap (λ (s : Slab (Entry S F)). lasts (waiter_at s j.0)) lands.lands.slab ∙ became_lasts old.requests id.0 w (record w { request = lands.lands.request }) there moved j.0 at)
-  call_lasts worker old new g g' (Reap before after told reap leaving) spared j at =
-      elim (reap_tells old new g.opens g'.opens before after told reap) [
-        | inl none ↦ inl (ap (λ (s : Slab (Entry S F)). lasts (waiter_at s j.0)) none.requests ∙ at)
-        | inr there ↦
-            let w = there.w in
-            let w' : Waiter S F = record w { in_flight = false; request = there.reaps.request } in
-            let account = account_in g.opens (file_of w.request) in
-            let here = ap (λ (s : Slab (Entry S F)). lasts (waiter_at s j.0)) there.start ∙ at in
-            let now = (one_changed there.first.requests there.id.0 w w' there.at).is_at in
-            let last = became_lasts there.first.requests there.id.0 w w' there.at (alone_kept w.request there.reaps.request there.reaps.kept) j.0 here in
-            let over = over_lasts (landed_at (taken_out there.first) there.id w') worker there.id j w' there.reaps.answer (open_after w there.given account) now last in
-            let moved = there.end ∙ ap (λ (m : Driving S F). m.requests) there.reaps.driver in
-            subst (λ (r : Option Reaped). Spared new.requests (key_of worker j) (end_told worker r)) (sym there.reaps.told_is)
-            (as_told worker there.id w there.reaps.answer account new.requests (key_of worker j)
-            (subst (λ (s : Slab (Entry S F)). Spared s (key_of worker j) (option_map (λ how. (key_of worker there.id, how)) there.reaps.answer)) (sym moved) over))
-      ]
-  call_lasts worker old new g g' (SetAccount file account same is) spared j at = inl (kept old new old same (λ i was. was) j at)
-  call_lasts worker old new g g' (Recount file change keeps same is) spared j at = inl (kept old new old same (λ i was. was) j at)
-  call_lasts worker old new g g' (Leave id file leaves same is) spared j at = inl (kept old new old same (λ i was. was) j at)
-  call_lasts worker old new g g' (Other is keeps lawful places same) spared j at = inl (ap (λ (s : Slab (Entry S F)). lasts (waiter_at s j.0)) is ∙ at)
+  call_lasts : (worker : ℕ) (old new : Driving S F) (g g' : Gates) (call : Call worker old new g g') → Says old → (j : WaiterId) → lasts (request_at old j) ≡ true → Spared new.requests (key_of worker j) (end_by call)
+  call_lasts worker old new g g' call says j at =
+      let told = end_by call in
+      each_call worker old new g g' call (λ s. Spared s (key_of worker j) told) (passes old says worker told (lets_out call) j) (λ id r observer now. comes old worker id j r observer now told) (inl at)
 
   pub ends_told : (drivers : ℕ → ℕ → Driving S F) (g : ℕ → Gates) (run : IsRun drivers g) (n : ℕ) (key : WaiterKey) (w : Waiter S F) → request_at (drivers n key.worker) key.id ≡ Some w → goes_on_alone w.request ≡ true
       → request_at (drivers (suc n) key.worker) key.id ≡ None → IsSomeAnd (end_by (run.next n).call) (λ e. e.0 ≡ key)
@@ -206,7 +184,7 @@ module _ {S F : Type 0} where
       elim (eqb_tells key.worker calls.worker) [
         | inr apart ↦ absurd (cc (sym at ∙ ap (λ (d : Driving S F). request_at d key.id) (sym (calls.others key.worker apart.1)) ∙ gone))
         | inl same ↦
-            elim (call_lasts calls.worker _ _ _ _ calls.call (all_spared drivers g run n calls.worker) key.id (ap (λ (i : ℕ). lasts (request_at (drivers n i) key.id)) (sym same.1) ∙ there)) [
+            elim (call_lasts calls.worker _ _ _ _ calls.call (says_always drivers g run n calls.worker) key.id (ap (λ (i : ℕ). lasts (request_at (drivers n i) key.id)) (sym same.1) ∙ there)) [
               | inl still ↦ absurd (false≢true (sym (ap lasts gone) ∙ ap (λ (i : ℕ). lasts (request_at (drivers (suc n) i) key.id)) same.1 ∙ still))
               | inr told ↦ subst (λ (i : ℕ). IsSomeAnd (end_by calls.call) (λ e. e.0 ≡ key_of i key.id)) (sym same.1) told
             ]

@@ -1,75 +1,121 @@
--- Over a run, who is gone stays gone, and each request ends once.
-use Rattle.std.proofs.Common.{◌≡◌, ℕ, zero, suc, ◌<◌, ◌≤◌, ◌^◌, false, List, Option, Some, None, refl, sym, ap, subst, ◌∙◌, inl, inr, arith}
-use Rattle.std.specs.{Option.{option_map}, Prelude.{IsSomeAnd}}
-use Rattle.std.proofs.lemmas.Bool.{cases_lt}
-use Rattle.exec_base.specs.Slab.{next_generation, next_id, IsPast}
-use Rattle.exec_base.specs.declared.slab.Slot.{Slot}
-use Rattle.exec_request.specs.{Requests.output_of, declared.request.Request.Request}
-use Rattle.exec_waiters.proofs.{Changes.at_by, Over.over}
-use Rattle.exec_opens.specs.{Opens.OpenState, declared.opens.WaiterKey.WaiterKey}
-use Rattle.exec_lists.specs.Lists.{after_due, after_enrolment}
-use Rattle.exec_driver.specs.{Admission.Admits, Steps.{queued_or_ended, landed_at, newcomer, permitted, taken_in, told_as}, declared.driver.reaping.Reaped.Reaped}
-use Rattle.exec_driver.proofs.{Endings.one_changed, Words.{Account, Deferred, Driving, Ended, Entry, Id, Observer, Pending, Slab, Waiter, WaiterId, account_in, entry_of, eqb_tells, file_of, open_after, request_at, taken_out, tick_for, value_at, waiter_at, with_permit}}
-use Rattle.exec_driver_laws.specs.Sharing.{Call, Admit, Join, Observe, SetWaker, Forward, Orphan, Expire, Enrol, Grant, Stage, Land, Reap, SetAccount, Recount, Leave, Other, CallsOne, Gates, IsRun, end_by, end_told, key_of}
-use Rattle.exec_driver_laws.proofs.{Calling.{ReapsThere, reap_tells}, Onward.{Onward, became_on, cancelled_on, enrolled_on, filled_on, forwarded_on, granted_on, let_go_on, placed_on, room_on, taken_on, then_on, unmoved, waked_on}, Standing.{asking_last, filled_last}}
+-- A name that was given stays given, and who is gone stays gone: so over a run each request ends once.
+use Rattle.std.proofs.Common.{◌≡◌, ℕ, zero, suc, ◌<◌, ◌≤◌, ◌^◌, false, List, Option, Some, None, refl, sym, ap, subst, ◌∙◌, inl, inr, arith, ◌+◌, ltb, Bool, cond, [], ◌∷◌, length}
+use Rattle.exec_driver_laws.{proofs.{Words.{option_map, IsSomeAnd, cases_lt, next_generation, IsPast, Slot, at_by, over, OpenState, WaiterKey, queued_or_ended, landed_at, permitted, told_as, Reaped, one_changed, Account, Deferred, Driving, Ended, Entry, Id, Pending, Slab, Waiter, WaiterId, entry_of, eqb_tells, request_at, taken_out, waiter_at, with_permit, taken_in, newcomer, Request, get_or_past, filled, freed, generation_of, next_id, removed, slot_at, value_in, Live, Vacant, Retired, some_of_if, output_of, RequestOutput, finished_for, placed_at, placed_is, Observer, Ready, deadline_of, waiter_of, written}, Passing.{ReapsThere, reap_tells, Becomes, Passes, each_call}, Standing.{OneSlot, push_one, set_one, filled_last, IsLast, asking_last, past_filled, past_freed, there_last}}, specs.Sharing.{Call, Grant, Reap, CallsOne, Gates, IsRun, end_by, end_told, key_of, lets_out}}
+
+module _ {S F : Type 0} where
+  -- from some requests to later ones: a name that was given was given then too, and is of no request that it wasn't of
+  pub record Onward (s s' : Slab (Entry S F)) : Type 0 where
+    pub past : (id : Id) → id.generation < 2 ^ 64 → IsPast s id → IsPast s' id
+    pub gone : (id : Id) → id.generation < 2 ^ 64 → IsPast s id → waiter_at s id ≡ None → waiter_at s' id ≡ None
+
+  pub unmoved : (s s' : Slab (Entry S F)) → s' ≡ s → Onward s s'
+  unmoved s s' same = subst (Onward s) (sym same) (record { past = λ id fits past. past; gone = λ id fits past none. none })
+
+  pub then_on : (a b c : Slab (Entry S F)) → Onward a b → Onward b c → Onward a c
+  then_on a b c one other =
+      record {
+        past = λ id fits past. other.past id fits (one.past id fits past);
+        gone = λ id fits past none. other.gone id fits (one.past id fits past) (one.gone id fits past none);
+      }
+
+  -- ONE SLOT
+
+  abbrev None_in : Slot (Entry S F) → ℕ → Type 0
+  None_in slot n = waiter_of (value_in slot n) ≡ None
+
+  one_on : (s s' : Slab (Entry S F)) (i : ℕ) (slot : Slot (Entry S F)) → OneSlot s s' i slot → ((n : ℕ) → n < 2 ^ 64 → n < next_generation (slot_at s i) → n < next_generation slot)
+      → ((n : ℕ) → n < next_generation (slot_at s i) → None_in (slot_at s i) n → None_in slot n) → Onward s s'
+  one_on s s' i slot one grows stays =
+      record {
+        past = λ id fits past.
+            elim (one id.index) [
+              | inl same ↦ subst (λ (o : Slot (Entry S F)). id.generation < next_generation o) (sym same) past
+              | inr here ↦ subst (λ (o : Slot (Entry S F)). id.generation < next_generation o) (sym here.1) (grows id.generation fits (subst (λ (k : ℕ). id.generation < next_generation (slot_at s k)) here.0 past))
+            ];
+        gone = λ id fits past none.
+            elim (one id.index) [
+              | inl same ↦ subst (λ (o : Slot (Entry S F)). None_in o id.generation) (sym same) none
+              | inr here ↦
+                  subst (λ (o : Slot (Entry S F)). None_in o id.generation) (sym here.1)
+                  (stays id.generation (subst (λ (k : ℕ). id.generation < next_generation (slot_at s k)) here.0 past) (subst (λ (k : ℕ). None_in (slot_at s k) id.generation) here.0 none))
+            ];
+      }
+
+  -- who was gone is so in the slot of a request that became another
+  live_stays : (g n : ℕ) (w : Waiter S F) (e : Entry S F) → None_in (Live g (Pending w)) n → None_in (Live g e) n
+  live_stays = grind arith
+
+  ready_none : (g n : ℕ) (told : RequestOutput) → None_in (Live g (Ready told)) n
+  ready_none = grind arith
+
+  freed_none : (b : Bool) (h n : ℕ) → None_in (cond b (Vacant h) Retired) n
+  freed_none = grind arith
+
+  -- a name that no slot had before
+  fresh_none : (slot : Slot (Entry S F)) (n : ℕ) (e : Entry S F) → (generation_of slot < next_generation slot → ⊥) → n < next_generation slot → None_in (Live (generation_of slot) e) n
+  fresh_none = grind (arith, eqb_tells)
+
+  became_on : (s : Slab (Entry S F)) (id : Id) (w w' : Waiter S F) → waiter_at s id ≡ Some w → Onward s (written s id (Pending w'))
+  became_on s id w w' at =
+      let slot = (at_by s id (Pending w) (entry_of _ w at)).slot in
+      one_on s (written s id (Pending w')) id.index (Live id.generation (Pending w')) (set_one s _ id.index (Live id.generation (Pending w')) refl)
+      (λ n within past. asking_last s id w at n past)
+      (λ n past none. live_stays id.generation n w (Pending w') (subst (λ (o : Slot (Entry S F)). None_in o n) slot none))
+
+  ready_on : (s : Slab (Entry S F)) (id : Id) (told : RequestOutput) → IsLast s id → Onward s (written s id (Ready told))
+  ready_on s id told last =
+      one_on s (written s id (Ready told)) id.index (Live id.generation (Ready told)) (set_one s _ id.index (Live id.generation (Ready told)) refl) (λ n within past. last n past) (λ n past none. ready_none id.generation n told)
+
+  removed_on : (s : Slab (Entry S F)) (id : Id) → IsLast s id → Onward s (removed s id)
+  removed_on s id last =
+      one_on s (removed s id) id.index (freed id.generation) (set_one s _ id.index (freed id.generation) refl) (λ n within past. past_freed (Entry S F) (ltb (id.generation + 1) (2 ^ 64)) id.generation n refl within (last n past)) (λ n past none. freed_none (ltb (id.generation + 1) (2 ^ 64)) (id.generation + 1) n)
+
+  filled_on : (s : Slab (Entry S F)) (vacant : List ℕ) (id : Id) (e : Entry S F) → next_id (record s { vacant = vacant }) ≡ Some id → (IsPast s id → ⊥) → Onward s (filled s vacant e)
+  filled_on s [] id e next never =
+      let slot = get_or_past s.slots (length s.slots) (Vacant s.first) (omega arith) in
+      one_on s (filled s [] e) (length s.slots) (Live s.first e) (push_one s (Live s.first e))
+      (λ n within past. let before = subst (λ (o : Slot (Entry S F)). n < next_generation o) slot past in omega (arith, before))
+      (λ n past none. let before = subst (λ (o : Slot (Entry S F)). n < next_generation o) slot past in new_none n before)
+    where
+      new_none : (n : ℕ) → n < s.first → None_in (Live s.first e) n
+      new_none = grind (arith, eqb_tells)
+  filled_on s (i ∷ rest) id e next never =
+      let name = some_of_if _ _ _ next in
+      let unused : generation_of (slot_at s i) < next_generation (slot_at s i) → ⊥ = λ past. never (subst (IsPast s) name past) in
+      one_on s (filled s (i ∷ rest) e) i (Live (generation_of (slot_at s i)) e) (set_one s _ i (Live (generation_of (slot_at s i)) e) refl) (λ n within past. past_filled (slot_at s i) n past) (λ n past none. fresh_none (slot_at s i) n e unused past)
+
+  room_on : (s : Slab (Entry S F)) (room : ℕ) → Onward s (record s { room = room })
+  room_on s room = record { past = λ id fits past. past; gone = λ id fits past none. none }
+
+  finished_on : (s : Slab (Entry S F)) (id : Id) (told : RequestOutput) (observer : Observer S F) → IsLast s id → Onward s (finished_for s id told observer)
+  finished_on = grind (arith, ready_on, removed_on)
+
+  placed_on : (d : Driving S F) (id : WaiterId) (w : Waiter S F) (now : ℕ) → IsLast d.requests id.0 → Onward d.requests (placed_at d id w now).requests
+  placed_on = grind (arith, placed_is, deadline_of, finished_on, unmoved)
+
+  comes : (d : Driving S F) (id : WaiterId) (r : Request) (observer : Observer S F) (now : ℕ) → next_id d.requests ≡ Some id.0 → (IsPast d.requests id.0 → ⊥) → Onward d.requests (placed_at (taken_in d r observer) id (newcomer r observer) now).requests
+  comes d id r observer now next never =
+      let w = newcomer r observer in
+      then_on d.requests (taken_in d r observer).requests _ (filled_on d.requests d.requests.vacant id.0 (Pending w) next never) (placed_on (taken_in d r observer) id w now (filled_last d.requests d.requests.vacant id w next))
+
+  passes : (old : Driving S F) (worker : ℕ) (told : Option (WaiterKey × Ended)) (out : Option WaiterId) (s0 : Slab (Entry S F)) → Passes old (Becomes old) worker told out (Onward s0)
+  passes old worker told out s0 =
+      record {
+        becomes = λ s id w w' at becomes on. then_on s0 s _ on (became_on s id.0 w w' at);
+        ends = λ s id w how account at idle over on. then_on s0 s _ on (finished_on s id.0 (output_of w.request how account) w.observer (asking_last s id.0 w at));
+        leaves = λ s id output at lets on. then_on s0 s _ on (removed_on s id.0 (there_last s id.0 (Ready output) at));
+        room = λ s room on. then_on s0 s _ on (room_on s room);
+      }
+
+  pub call_on : (worker : ℕ) (old new : Driving S F) (g g' : Gates) → Call worker old new g g' → Onward old.requests new.requests
+  call_on worker old new g g' call =
+      each_call worker old new g g' call (Onward old.requests) (passes old worker (end_by call) (lets_out call) old.requests) (λ id r observer now next never on. comes old id r observer now next never) (unmoved old.requests old.requests refl)
 
 -- an end that is told, and of whom
 pub told_end : (key k : WaiterKey) (how : Option Ended) → IsSomeAnd (option_map {U = WaiterKey × Ended} (λ how. (k, how)) how) (λ e. e.0 ≡ key) → (ended : Ended) × (how ≡ Some ended) × (k ≡ key)
-told_end key k None named = absurd named
-told_end key k (Some how) named = (how, refl, named)
+told_end = grind arith
 
 module _ {S F : Type 0} where
-  -- EACH CALL
-
-  by_driver : (s : Slab (Entry S F)) (new d : Driving S F) → new ≡ d → Onward s d.requests → Onward s new.requests
-  by_driver s new d is on = subst (λ (m : Driving S F). Onward s m.requests) (sym is) on
-
-  admitted_on : (old new : Driving S F) (opens opens' : List OpenState) (id : WaiterId) (r : Request) (observer : Observer S F) (now : ℕ) → next_id old.requests ≡ Some id.0 → (IsPast old.requests id.0 → ⊥) → Admits old new opens opens' id r observer now
-      → Onward old.requests new.requests
-  admitted_on old new opens opens' id r observer now next never admits =
-      let w = newcomer r observer in
-      let placed = placed_on (taken_in old r observer) id w now (filled_last old.requests old.requests.vacant id w next) in
-      let on = then_on old.requests (taken_in old r observer).requests _ (filled_on old.requests old.requests.vacant id.0 (Pending w) next never) placed in
-      by_driver old.requests new _ admits.driver (then_on old.requests _ _ on (room_on _ new.requests.room))
-
-  reaped_on : (old new : Driving S F) (opens opens' : List OpenState) (before after : Deferred S F) (told : Option Reaped) → (there : ReapsThere old new opens opens' before after told) → Onward old.requests new.requests
-  reaped_on old new opens opens' before after told there =
-      let id = there.id in
-      let w' : Waiter S F = record there.w { in_flight = false; request = there.reaps.request } in
-      let d = landed_at (taken_out there.first) id w' in
-      let now = (one_changed there.first.requests id.0 there.w w' there.at).is_at in
-      let ends = granted_on d id w' there.reaps.answer (open_after there.w there.given (account_in opens (file_of there.w.request))) (asking_last d.requests id.0 w' now) in
-      let on = then_on there.first.requests d.requests _ (became_on there.first.requests id.0 there.w w' there.at) ends in
-      subst (λ (s : Slab (Entry S F)). Onward s new.requests) there.start (subst (Onward there.first.requests) (sym there.end) (by_driver there.first.requests there.second _ there.reaps.driver on))
-
-  call_on : (worker : ℕ) (old new : Driving S F) (g g' : Gates) → Call worker old new g g' → Onward old.requests new.requests
-  call_on worker old new g g' (Admit id r observer now next within never admits leaving) = admitted_on old new g.opens g'.opens id r observer now next never admits
-  call_on worker old new g g' (Join id fits same is) = by_driver old.requests new old same (unmoved _ _ refl)
-  call_on worker old new g g' (Observe id is same) = by_driver old.requests new _ is (taken_on old.requests id.0 (value_at old.requests id.0) refl)
-  call_on worker old new g g' (SetWaker id task is same) = by_driver old.requests new _ is (waked_on old.requests id.0 task (value_at old.requests id.0) refl)
-  call_on worker old new g g' (Forward id sender is same) = by_driver old.requests new _ is (forwarded_on old.requests id.0 sender (value_at old.requests id.0) refl)
-  call_on worker old new g g' (Orphan id is same) = by_driver old.requests new _ is (let_go_on old id)
-  call_on worker old new g g' (Expire id first is same) = by_driver old.requests new _ is (cancelled_on (record old { lists = after_due old.lists }) id (request_at old id) refl)
-  call_on worker old new g g' (Enrol before after id w deadline now told first at timed enrols same) =
-      by_driver old.requests new _ enrols.driver (enrolled_on (record old { lists = after_enrolment old.lists }) id w (tick_for old.wheel deadline now) at)
-  call_on worker old new g g' (Grant before after file granted w at grants leaving) =
-      let d = permitted old granted.id w in
-      let now = (one_changed old.requests granted.id.0 w (with_permit w) at).is_at in
-      let ends = granted_on d granted.id (with_permit w) granted.ended (account_in g.opens (file_of w.request)) (asking_last d.requests granted.id.0 (with_permit w) now) in
-      by_driver old.requests new _ (grants.grants w at).driver (then_on old.requests d.requests _ (became_on old.requests granted.id.0 w (with_permit w) at) ends)
-  call_on worker old new g g' (Stage id w account first at stages same) = by_driver old.requests new _ stages.driver (became_on old.requests id.0 w _ at)
-  call_on worker old new g g' (Land id w given store store' at may lands same) =
-      subst (Onward old.requests) (sym lands.lands.slab) (became_on old.requests id.0 w (record w { request = lands.lands.request }) at)
-  call_on worker old new g g' (Reap before after told reap leaving) =
-      elim (reap_tells old new g.opens g'.opens before after told reap) [
-        | inl none ↦ unmoved old.requests new.requests none.requests
-        | inr there ↦ reaped_on old new g.opens g'.opens before after told there
-      ]
-  call_on worker old new g g' (SetAccount file account same is) = by_driver old.requests new old same (unmoved _ _ refl)
-  call_on worker old new g g' (Recount file change keeps same is) = by_driver old.requests new old same (unmoved _ _ refl)
-  call_on worker old new g g' (Leave id file leaves same is) = by_driver old.requests new old same (unmoved _ _ refl)
-  call_on worker old new g g' (Other is keeps lawful places same) = subst (Onward old.requests) (sym is) (room_on old.requests new.requests.room)
-
   -- OVER A RUN
 
   calls_on : (drivers drivers' : ℕ → Driving S F) (g g' : Gates) → CallsOne drivers drivers' g g' → (i : ℕ) → Onward (drivers i).requests (drivers' i).requests
@@ -106,12 +152,10 @@ module _ {S F : Type 0} where
     pub over : request_at new key.id ≡ None
 
   told_answer : (w : Waiter S F) (answer : Option Ended) (account : Option Account) (ended : Ended) → told_as w answer account ≡ Some ended → (how : Ended) × (answer ≡ Some how)
-  told_answer w None account ended is = absurd (cc)
-  told_answer w (Some how) account ended is = (how, refl)
+  told_answer = grind arith
 
   ended_over : (d : Driving S F) (id : WaiterId) (w : Waiter S F) (how : Option Ended) (ended : Ended) (account : Option Account) → how ≡ Some ended → request_at d id ≡ Some w → request_at (queued_or_ended d id w how account) id ≡ None
-  ended_over d id w None ended account is at = absurd (cc)
-  ended_over d id w (Some how) ended account is at = over d.requests id.0 w (output_of w.request how account) w.observer at
+  ended_over = grind (arith, over)
 
   reap_ends : (worker : ℕ) (old new : Driving S F) (opens opens' : List OpenState) (before after : Deferred S F) (told : Option Reaped) → ReapsThere old new opens opens' before after told → (key : WaiterKey)
       → IsSomeAnd (end_told worker told) (λ e. e.0 ≡ key) → EndsHere worker old new key
@@ -141,35 +185,20 @@ module _ {S F : Type 0} where
       ]
   ends_here worker old new g g' other key named = absurd named
 
-  record EndsAt (drivers : ℕ → ℕ → Driving S F) (n : ℕ) (key : WaiterKey) : Type 0 where
-    pub w : Waiter S F
-    pub at : request_at (drivers n key.worker) key.id ≡ Some w
-    pub over : request_at (drivers (suc n) key.worker) key.id ≡ None
-
-  ends_at : (drivers : ℕ → ℕ → Driving S F) (g : ℕ → Gates) (run : IsRun drivers g) (n : ℕ) (key : WaiterKey) → IsSomeAnd (end_by (run.next n).call) (λ e. e.0 ≡ key) → EndsAt drivers n key
+  ends_at : (drivers : ℕ → ℕ → Driving S F) (g : ℕ → Gates) (run : IsRun drivers g) (n : ℕ) (key : WaiterKey) → IsSomeAnd (end_by (run.next n).call) (λ e. e.0 ≡ key) → EndsHere key.worker (drivers n key.worker) (drivers (suc n) key.worker) key
   ends_at drivers g run n key named =
       let ends = ends_here (run.next n).worker _ _ (g n) (g (suc n)) (run.next n).call key named in
-      record {
-        w = ends.w;
-        at = ap (λ (i : ℕ). request_at (drivers n i) key.id) ends.own ∙ ends.at;
-        over = ap (λ (i : ℕ). request_at (drivers (suc n) i) key.id) ends.own ∙ ends.over;
-      }
+      subst (λ (i : ℕ). EndsHere i (drivers n i) (drivers (suc n) i) key) (sym ends.own) ends
 
-  never_again : (drivers : ℕ → ℕ → Driving S F) (g : ℕ → Gates) (run : IsRun drivers g) (n m : ℕ) (key : WaiterKey) → key.id.0.generation < 2 ^ 64 → EndsAt drivers n key → EndsAt drivers m key → n < m → ⊥
+  never_again : (drivers : ℕ → ℕ → Driving S F) (g : ℕ → Gates) (run : IsRun drivers g) (n m : ℕ) (key : WaiterKey) → key.id.0.generation < 2 ^ 64 → IsSomeAnd (end_by (run.next n).call) (λ e. e.0 ≡ key) → IsSomeAnd (end_by (run.next m).call) (λ e. e.0 ≡ key) → n < m → ⊥
   never_again drivers g run n m key fits one other before =
-      let gone = stays_gone drivers g run n (suc n) m (omega arith) (omega (arith, before)) key one.w fits one.at one.over in
-      cc (sym gone ∙ other.at)
+      let first = ends_at drivers g run n key one in
+      cc (sym (stays_gone drivers g run n (suc n) m (omega arith) (omega (arith, before)) key first.w fits first.at first.over) ∙ (ends_at drivers g run m key other).at)
 
   pub ends_once : (drivers : ℕ → ℕ → Driving S F) (g : ℕ → Gates) (run : IsRun drivers g) (n m : ℕ) (key : WaiterKey) → key.id.0.generation < 2 ^ 64 → IsSomeAnd (end_by (run.next n).call) (λ e. e.0 ≡ key)
       → IsSomeAnd (end_by (run.next m).call) (λ e. e.0 ≡ key) → n ≡ m
   ends_once drivers g run n m key fits one other =
-      let first = ends_at drivers g run n key one in
-      let second = ends_at drivers g run m key other in
       elim (cases_lt n m) [
-        | inl before ↦ absurd (never_again drivers g run n m key fits first second before)
-        | inr since ↦
-            elim (cases_lt m n) [
-              | inl after ↦ absurd (never_again drivers g run m n key fits second first after)
-              | inr same ↦ omega (arith, since, same)
-            ]
+        | inl before ↦ absurd (never_again drivers g run n m key fits one other before)
+        | inr since ↦ elim (cases_lt m n) [ inl after ↦ absurd (never_again drivers g run m n key fits other one after) | inr same ↦ omega (arith, since, same) ]
       ]

@@ -1,24 +1,98 @@
 -- What each call does to the operations of its driver, and so whose they are at each moment of a run.
-use Rattle.std.proofs.Common.{◌≡◌, ◌≢◌, ◌⊎◌, ℕ, ◌+◌, ◌≤◌, ◌<◌, eqb, Bool, true, false, cond, List, Option, Some, None, refl, sym, ap, subst, ◌∙◌, inl, inr, arith}
-use Rattle.std.specs.{Option.{option_map}, Prelude.{IsSomeAnd}}
-use Rattle.std.proofs.lemmas.Bool.{false≢true}
-use Rattle.exec_base.specs.{Slab.{slot_at}, declared.slab.Slot.TheVariants.{Live}}
-use Rattle.exec_request.specs.{Hints.has_hint, Requests.window_by, declared.window.Window.Window}
-use Rattle.exec_ring.specs.{Completions.is_operation, Landings.Moves, declared.store.Store.Store}
-use Rattle.exec_waiters.specs.{Ids.{user_data_of, index_in}, States.{named, named_in}}
-use Rattle.exec_waiters.proofs.Changes.{at_by}
-use Rattle.std.proofs.lemmas.Grind.{common_steps}
-use Rattle.exec_opens.specs.declared.opens.WaiterKey.{WaiterKey}
-use Rattle.exec_lists.proofs.Names.{same_tells}
-use Rattle.exec_driver.specs.{Placed.Says, Steps.{StagesOne, LandsOne, queued_or_ended, landed_at, told_as, taken_in, newcomer, placed_at}, declared.driver.reaping.Reaped.Reaped}
-use Rattle.exec_driver.proofs.Words.{Account, Slab, Id, OpResult, OpenState, Deferred, Submission, RingState, Request, Waiter, Entry, Pending, WaiterId, Driving, request_at, Ended, waiter_at, is_flying, is_some, is_queued, is_gated, is_unenrolled, value_at, flight_of, tick_for, after_enrolment, after_due, taken_out, open_after, account_in, file_of, eqb_tells, entry_of, one_if}
-use Rattle.exec_driver.proofs.Endings.{one_changed, one_finished}
-use Rattle.exec_driver_laws.specs.{Owning.{is_staged_of, is_wake_poll, operations_in, KeepsOperations, IsOwned}, Sharing.{Gates, Call, Admit, Join, Observe, SetWaker, Forward, Orphan, Expire, Enrol, Grant, Stage, Land, Reap, SetAccount, Recount, Leave, Other, key_of, end_by_reap, end_told}}
-use Rattle.exec_driver_laws.proofs.{Calling.{reap_tells, ReapsThere, Drops}, Lasting.{placed_apart, filled_apart}, OwningRing.{keeps_same, entry_one, flight_there}, OwningSteps.{GoOn, stays, flies_on, there_before, alike_on, same_ids, taken_on, waked_on, forwarded_on, let_go_on, let_go_ring, cancelled_on, cancelled_ring, enrolled_on, enrolled_ring, granted_on, granted_ring, free, placed_ring, filled_idle, placed_idle}, Uncancelled.first_among}
+use Rattle.std.proofs.Common.{◌≡◌, ◌≢◌, ◌⊎◌, ℕ, ◌+◌, ◌≤◌, ◌<◌, eqb, Bool, true, false, cond, List, Option, Some, None, refl, sym, ap, subst, ◌∙◌, inl, inr, arith, not, ◌||◌, ◌&&◌, length-set}
+use Rattle.exec_driver_laws.{proofs.{Words.{waiter_of, option_map, IsSomeAnd, false≢true, slot_at, Live, has_hint, window_by, Window, is_operation, Moves, Store, user_data_of, index_in, named, named_in, at_by, common_steps, WaiterKey, same_tells, Says, StagesOne, LandsOne, queued_or_ended, landed_at, told_as, taken_in, newcomer, placed_at, Reaped, Account, Slab, Id, OpResult, OpenState, Deferred, Submission, RingState, Request, Waiter, Entry, Pending, WaiterId, Driving, request_at, Ended, waiter_at, is_flying, is_some, is_queued, flight_of, taken_out, open_after, account_in, file_of, eqb_tells, entry_of, one_if, one_changed, one_finished, cases_lt, get_or-set_at, get_or_past, get_or_push, removed, next_id, IsPast, filled, some_of_if, RequestOutput, finished, finished_for, OneChanged, one_removed, permitted, granted, value_at, written, waiter_in, Ready, Observer, deadline_of, with_permit, is_same, placed_is}, Passing.{reap_tells, ReapsThere, Drops, first_among, idle_gated, mild, Passes, Rests}, Lasting.{placed_apart, filled_apart}, OwningRing.{keeps_same, entry_one, flight_there}, Everywhere.finished_all}, specs.{Owning.{is_staged_of, is_wake_poll, operations_in, KeepsOperations, IsOwned}, Sharing.{Gates, Call, Admit, Grant, Stage, Land, Reap, Other, key_of, end_by_reap, end_told, lets_out}}}
+
+pub same_ids : (a b : Id) → (a ≡ b) ⊎ (a ≢ b)
+same_ids = grind (arith, eqb_tells)
+
+module _ {S F : Type 0} where
+  -- a request with an operation under way goes on with it, none begins one, and no request comes
+  abbrev pub goes_on : Option (Waiter S F) → Option (Waiter S F) → Bool
+  goes_on o None = not (is_flying o)
+  goes_on None (Some w') = false
+  goes_on (Some w) (Some w') = (not w.in_flight || w'.in_flight) && (not w'.in_flight || w.in_flight)
+
+  abbrev pub GoOn : Slab (Entry S F) → Slab (Entry S F) → Type 0
+  GoOn s s' = (j : Id) → goes_on (waiter_at s j) (waiter_at s' j) ≡ true
+
+  pub stays : (o o' : Option (Waiter S F)) → o' ≡ o → goes_on o o' ≡ true
+  stays = grind arith
+
+  pub then_on : (a b c : Option (Waiter S F)) → goes_on a b ≡ true → goes_on b c ≡ true → goes_on a c ≡ true
+  then_on = grind arith
+
+  pub flies_on : (o o' : Option (Waiter S F)) → goes_on o o' ≡ true → is_flying o ≡ true → is_flying o' ≡ true
+  flies_on = grind arith
+
+  pub flew_before : (o o' : Option (Waiter S F)) → goes_on o o' ≡ true → is_flying o' ≡ true → is_flying o ≡ true
+  flew_before = grind arith
+
+  pub there_before : (o o' : Option (Waiter S F)) → goes_on o o' ≡ true → is_some o' ≡ true → is_some o ≡ true
+  there_before = grind arith
+
+  one_on : (s s' : Slab (Entry S F)) (id : Id) (was is : Option (Waiter S F)) → OneChanged s s' id was is → goes_on was is ≡ true → GoOn s s'
+  one_on s s' id was is one goes j =
+      elim (same_ids j id) [
+        | inl same ↦
+            ap (λ (n : Id). goes_on (waiter_at s n) (waiter_at s' n)) same ∙ ap (λ (o : Option (Waiter S F)). goes_on o (waiter_at s' id)) one.was_at ∙ ap (goes_on was) one.is_at ∙ goes
+        | inr other ↦ stays (waiter_at s j) (waiter_at s' j) (one.others j other)
+      ]
+
+  pub alike_on : (s : Slab (Entry S F)) (id : Id) (w w' : Waiter S F) → waiter_at s id ≡ Some w → w'.in_flight ≡ w.in_flight → GoOn s (written s id (Pending w'))
+  alike_on s id w w' at same = one_on s _ id _ _ (one_changed s id w w' at) (grind arith)
+
+  removed_on : (s : Slab (Entry S F)) (id : Id) (was : Entry S F) → value_at s id ≡ Some was → is_flying (waiter_in was) ≡ false → GoOn s (removed s id)
+  removed_on s id was at idle = one_on s _ id _ _ (one_removed s id was at) (ap not idle)
+
+  finished_on : (s : Slab (Entry S F)) (id : Id) (w : Waiter S F) (how : Ended) (account : Option Account) → waiter_at s id ≡ Some w → w.in_flight ≡ false → GoOn s (finished s id w how account)
+  finished_on s id w how account at idle = one_on s _ id _ _ (one_finished s id w how account at) (ap not idle)
+
+  pub passes : (old : Driving S F) → Says old → (worker : ℕ) (told : Option (WaiterKey × Ended)) (out : Option WaiterId) → Passes old (Rests old) worker told out (GoOn old.requests)
+  passes old says worker told out =
+      record {
+        becomes = λ s id w w' at rests on j. then_on (waiter_at old.requests j) (waiter_at s j) _ (on j) (alike_on s id.0 w w' at rests.flight j);
+        ends = λ s id w how account at idle over on j. then_on (waiter_at old.requests j) (waiter_at s j) _ (on j) (finished_on s id.0 w how account at (idle says) j);
+        leaves = λ s id output at lets on j. then_on (waiter_at old.requests j) (waiter_at s j) _ (on j) (removed_on s id.0 (Ready output) at refl j);
+        room = λ s room on. on;
+      }
+
+  queued_or_ended_on : (d : Driving S F) (id : WaiterId) (w : Waiter S F) (how : Option Ended) (account : Option Account) → request_at d id ≡ Some w → w.in_flight ≡ false → GoOn d.requests (queued_or_ended d id w how account).requests
+  queued_or_ended_on = grind (arith, stays, finished_on)
+
+  pub granted_on : (d : Driving S F) (id : WaiterId) (w : Waiter S F) (how : Option Ended) (account : Option Account) → request_at d id ≡ Some w → w.in_flight ≡ false → GoOn d.requests (granted d id w how account).requests
+  granted_on d id w how account at idle j =
+      let w' = with_permit w in
+      then_on (waiter_at d.requests j) (waiter_at (permitted d id w).requests j) (waiter_at (granted d id w how account).requests j) (alike_on d.requests id.0 w w' at refl j) (queued_or_ended_on (permitted d id w) id w' how account (one_changed d.requests id.0 w w' at).is_at idle j)
+
+  pub granted_ring : (d : Driving S F) (id : WaiterId) (w : Waiter S F) (how : Option Ended) (account : Option Account) → (granted d id w how account).ring ≡ d.ring
+  granted_ring d id w None account = refl
+  granted_ring d id w (Some how) account = refl
+
+  -- AN ADMISSION
+
+  pub free : (s : Slab (Entry S F)) (id j : Id) (w : Waiter S F) → next_id s ≡ Some id → (IsPast s id → ⊥) → waiter_at s j ≡ Some w → j.index ≢ id.index
+  free = grind (arith, some_of_if)
+
+  -- it isn't this one with an operation under way
+  abbrev rests : Id → WaiterId → Option (Waiter S F) → Bool
+  rests j i None = true
+  rests j i (Some w) = not (w.in_flight && is_same i (record { 0 = j }))
+
+  finished_idle : (s : Slab (Entry S F)) (id : WaiterId) (j : Id) (told : RequestOutput) (observer : Observer S F) → is_flying (waiter_at s j) ≡ false → is_flying (waiter_at (finished_for s id.0 told observer) j) ≡ false
+  finished_idle s id j told observer idle = let all = finished_all (rests j) (λ i. refl) id s told observer (grind (arith, idle, same_tells)) (record { 0 = j }) in grind (arith, all)
+
+  -- who comes has no operation under way
+  pub filled_idle : (s : Slab (Entry S F)) (vacant : List ℕ) (id j : Id) (e : Entry S F) → next_id (record s { vacant = vacant }) ≡ Some id → j.index ≡ id.index → is_flying (waiter_in e) ≡ false → is_flying (waiter_at (filled s vacant e) j) ≡ false
+  filled_idle = grind (arith, some_of_if, cases_lt, eqb_tells, get_or_push, get_or-set_at, length-set, get_or_past)
+
+  pub placed_idle : (d : Driving S F) (id : WaiterId) (j : Id) (w : Waiter S F) (now : ℕ) → is_flying (waiter_at d.requests j) ≡ false → is_flying (waiter_at (placed_at d id w now).requests j) ≡ false
+  placed_idle = grind (arith, placed_is, deadline_of, finished_idle)
+
+  pub placed_ring : (d : Driving S F) (id : WaiterId) (w : Waiter S F) (now : ℕ) → (placed_at d id w now).ring ≡ d.ring
+  placed_ring = grind (arith, placed_is, deadline_of)
 
 moved_there : (o : Option Submission) (given : OpResult) (r r' : Request) (st st' : Store) → Moves o given r r' st st' → (e : Submission) × (o ≡ Some e)
-moved_there None given r r' st st' moves = absurd moves
-moved_there (Some e) given r r' st st' moves = (e, refl)
+moved_there = grind arith
 
 an_entry : (e : Submission) (user_data : ℕ) → is_wake_poll e.window.kind ≡ false → is_staged_of user_data e ≡ eqb e.user_data user_data
 an_entry = grind arith
@@ -31,27 +105,17 @@ index_own = grind arith
 
 -- how many there are at most
 few_stay : (n n' : ℕ) (o o' : Option Id) → n' ≤ n → ((id : Id) → o ≡ Some id → o' ≡ Some id) → n ≤ cond (is_some o) 1 0 → n' ≤ cond (is_some o') 1 0
-few_stay n n' None o' less on was = omega (arith, less, was)
-few_stay n n' (Some id) o' less on was = subst (λ (x : Option Id). n' ≤ cond (is_some x) 1 0) (sym (on id refl)) (omega (arith, less, was))
+few_stay = grind arith
 
 few_begin : (n n' : ℕ) (o o' : Option Id) → n' ≤ n + 1 → o ≡ None → is_some o' ≡ true → n ≤ cond (is_some o) 1 0 → n' ≤ cond (is_some o') 1 0
-few_begin n n' o None less none some was = absurd (false≢true some)
-few_begin n n' None (Some id) less none some was = omega (arith, less, was)
-few_begin n n' (Some other) (Some id) less none some was = absurd (cc)
+few_begin = grind arith
 
 few_over : (n n' : ℕ) (o : Option Id) → n' + 1 ≡ n → n ≤ cond (is_some o) 1 0 → n' ≡ 0
-few_over n n' None less was = omega (arith, less, was)
-few_over n n' (Some id) less was = omega (arith, less, was)
+few_over = grind arith
 
 module _ {S F : Type 0} where
   pub idle_queued : (o : Option (Waiter S F)) (w : Waiter S F) → o ≡ Some w → is_queued o ≡ true → w.in_flight ≡ false
   idle_queued = grind arith
-
-  idle_gated : (o : Option (Waiter S F)) (w : Waiter S F) → o ≡ Some w → is_gated o ≡ true → w.in_flight ≡ false
-  idle_gated = grind arith
-
-  idle_unenrolled : (o : Option (Waiter S F)) (w : Waiter S F) → o ≡ Some w → is_unenrolled o ≡ true → w.in_flight ≡ false
-  idle_unenrolled = grind arith
 
   -- A call keeps the operations, and all requests go on, or one comes that has none; or it brings one of a request that had
   -- none; or it takes one of a request out, which is there still or was told to have ended; or it drops one of no request.
@@ -67,9 +131,6 @@ module _ {S F : Type 0} where
 
   only : (worker : ℕ) (old new d : Driving S F) (told : Option (WaiterKey × Ended)) → new ≡ d → d.ring ≡ old.ring → GoOn old.requests d.requests → Keeps worker old new told
   only worker old new d told is ring on = subst (λ (m : Driving S F). Keeps worker old m told) (sym is) (Quiet (keeps_same old.ring d.ring ring) on)
-
-  same_keeps : (worker : ℕ) (old new : Driving S F) (told : Option (WaiterKey × Ended)) → new ≡ old → Keeps worker old new told
-  same_keeps worker old new told is = only worker old new old told is refl (λ j. stays (waiter_at old.requests j) (waiter_at old.requests j) refl)
 
   staged_keeps : (worker : ℕ) (old new : Driving S F) (told : Option (WaiterKey × Ended)) (id : WaiterId) (w : Waiter S F) (account : Option Account) → request_at old id ≡ Some w → w.in_flight ≡ false → StagesOne old new id w account → Keeps worker old new told
   staged_keeps worker old new told id w account at idle stages =
@@ -90,12 +151,10 @@ module _ {S F : Type 0} where
 
   over_told : (d : Driving S F) (worker : ℕ) (id : WaiterId) (v w : Waiter S F) (how : Option Ended) (account kept : Option Account) → request_at d id ≡ Some w
       → (is_some (request_at (queued_or_ended d id w how account) id) ≡ true) ⊎ IsSomeAnd (option_map {U = WaiterKey × Ended} (λ how. (key_of worker id, how)) (told_as v how kept)) (λ e. e.0 ≡ key_of worker id)
-  over_told d worker id v w None account kept at = inl (ap is_some at)
-  over_told d worker id v w (Some how) account kept at = inr refl
+  over_told = grind arith
 
   over_idle : (d : Driving S F) (id : WaiterId) (w : Waiter S F) (how : Option Ended) (account : Option Account) → request_at d id ≡ Some w → w.in_flight ≡ false → is_flying (request_at (queued_or_ended d id w how account) id) ≡ false
-  over_idle d id w None account at idle = ap is_flying at ∙ idle
-  over_idle d id w (Some how) account at idle = ap is_flying (one_finished d.requests id.0 w how account at).is_at
+  over_idle = grind (arith, one_finished)
 
   over_others : (d : Driving S F) (id : WaiterId) (w : Waiter S F) (how : Option Ended) (account : Option Account) → request_at d id ≡ Some w → (j : Id) → j ≢ id.0 → waiter_at (queued_or_ended d id w how account).requests j ≡ waiter_at d.requests j
   over_others d id w None account at j other = refl
@@ -128,21 +187,8 @@ module _ {S F : Type 0} where
       let same : KeepsOperations old.ring (record (placed_at (taken_in old r observer) id w now).ring { places = new.ring.places }) =
       subst (λ (m : RingState). KeepsOperations old.ring (record m { places = new.ring.places })) (sym (placed_ring (taken_in old r observer) id w now)) (λ user_data is. refl) in
       Arrives id within (subst (KeepsOperations old.ring) (sym ring) same) (λ j v at. free old.requests id.0 j v next never at)
-      (λ j apart. ap (λ (m : Driving S F). waiter_at m.requests j) admits.driver ∙ placed_apart (taken_in old r observer) id j w now apart ∙ filled_apart old.requests old.requests.vacant id.0 j (Pending w) next apart)
+      (λ j apart. ap (λ (m : Driving S F). waiter_at m.requests j) admits.driver ∙ ap waiter_of (placed_apart (taken_in old r observer) id j w now apart ∙ filled_apart old.requests old.requests.vacant id.0 j (Pending w) next apart))
       (λ j here. ap (λ (m : Driving S F). is_flying (waiter_at m.requests j)) admits.driver ∙ placed_idle (taken_in old r observer) id j w now (filled_idle old.requests old.requests.vacant id.0 j (Pending w) next here refl))
-  call_keeps worker old new g g' (Join id fits same is) says = same_keeps worker old new None same
-  call_keeps worker old new g g' (Observe id is same) says = only worker old new _ None is refl (taken_on old.requests id.0 (value_at old.requests id.0) refl)
-  call_keeps worker old new g g' (SetWaker id task is same) says = only worker old new _ None is refl (waked_on old.requests id.0 task (value_at old.requests id.0) refl)
-  call_keeps worker old new g g' (Forward id sender is same) says = only worker old new _ None is refl (forwarded_on old.requests id.0 sender (value_at old.requests id.0) refl)
-  call_keeps worker old new g g' (Orphan id is same) says = only worker old new _ None is (let_go_ring old id) (let_go_on old id)
-  call_keeps worker old new g g' (Expire id first is same) says =
-      let d = record old { lists = after_due old.lists } in
-      only worker old new _ None is (cancelled_ring d id) (cancelled_on d id)
-  call_keeps worker old new g g' (Enrol before after id w deadline now told first at timed enrols same) says =
-      let idle = idle_unenrolled (request_at old id) w at (says.lists.enrolments id (first_among id old.lists.enrolments first)) in
-      let d = record old { lists = after_enrolment old.lists } in
-      let tick = tick_for old.wheel deadline now in
-      only worker old new _ None enrols.driver (enrolled_ring d id w tick) (enrolled_on d id w tick at idle)
   call_keeps worker old new g g' (Grant before after file granted w at grants leaves) says =
       let idle = idle_gated (request_at old granted.id) w at (says.lists.gated granted.id grants.waits) in
       let account = account_in g.opens (file_of w.request) in
@@ -157,20 +203,18 @@ module _ {S F : Type 0} where
             elim none.ring [ inl keeps ↦ Quiet keeps on | inr drops ↦ Loses drops on ]
         | inr there ↦ reaped_keeps worker old new g.opens g'.opens before after told there
       ]
-  call_keeps worker old new g g' (SetAccount file account same is) says = same_keeps worker old new None same
-  call_keeps worker old new g g' (Recount file change keeps same is) says = same_keeps worker old new None same
-  call_keeps worker old new g g' (Leave id file leaves same is) says = same_keeps worker old new None same
   call_keeps worker old new g g' (Other is keeps lawful places same) says = Quiet keeps (λ j. stays (waiter_at old.requests j) (waiter_at new.requests j) (ap (λ (s : Slab (Entry S F)). waiter_at s j) is))
+  call_keeps worker old new g g' other says =
+      let kept = mild old (λ w w' rests. rests) worker None (lets_out other) (GoOn old.requests) (passes old says worker None (lets_out other)) new g g' other refl refl (λ j. stays (waiter_at old.requests j) (waiter_at old.requests j) refl) in
+      Quiet (keeps_same old.ring new.ring kept.0) kept.1
 
   -- WHOSE THEY ARE
 
   pub flying_some : (o : Option (Waiter S F)) → is_flying o ≡ true → (w : Waiter S F) × (o ≡ Some w) × (w.in_flight ≡ true)
-  flying_some None flies = absurd (false≢true flies)
-  flying_some (Some w) flies = (w, refl, flies)
+  flying_some = grind arith
 
   there_some : (o : Option (Waiter S F)) → is_some o ≡ true → (w : Waiter S F) × (o ≡ Some w)
-  there_some None there = absurd (false≢true there)
-  there_some (Some w) there = (w, refl)
+  there_some = grind arith
 
   pub named_there : (s : Slab (Entry S F)) (user_data : ℕ) (id : Id) → named s user_data ≡ Some id → (id.index < 4294967296) × (is_flying (waiter_at s id) ≡ true) × (user_data_of id ≡ user_data)
   named_there = grind (arith, common_steps)
@@ -221,20 +265,12 @@ module _ {S F : Type 0} where
   within_names : (worker : ℕ) (old new : Driving S F) (told : Option (WaiterKey × Ended)) → Keeps worker old new told → IsOwned old → (id : WaiterId) (w : Waiter S F) → request_at new id ≡ Some w → id.0.index < 4294967295
   within_names worker old new told (Quiet keeps on) owned id w at = let was = there_some (request_at old id) (there_before (request_at old id) (request_at new id) (on id.0) (ap is_some at)) in owned.names id was.0 was.1
   within_names worker old new told (Loses drops on) owned id w at = let was = there_some (request_at old id) (there_before (request_at old id) (request_at new id) (on id.0) (ap is_some at)) in owned.names id was.0 was.1
-  within_names worker old new told (Arrives new_id within keeps free others idle) owned id w at =
-      elim (eqb_tells id.0.index new_id.0.index) [ inl same ↦ subst (λ (i : ℕ). i < 4294967295) (sym same.1) within | inr other ↦ owned.names id w (sym (others id.0 other.1) ∙ at) ]
-  within_names worker old new told (Comes who v there idle flies others count) owned id w at =
-      elim (same_ids id.0 who.0) [ inl same ↦ owned.names id v (ap (waiter_at old.requests) same ∙ there) | inr other ↦ owned.names id w (sym (others id.0 other) ∙ at) ]
-  within_names worker old new told (Goes who flies idle others ends count) owned id w at =
-      elim (same_ids id.0 who.0) [
-        | inl same ↦ let was = flying_some (request_at old who) flies in owned.names id was.0 (ap (waiter_at old.requests) same ∙ was.1)
-        | inr other ↦ owned.names id w (sym (others id.0 other) ∙ at)
-      ]
+  within_names worker old new told (Arrives new_id within keeps free others idle) owned id w at = grind (arith, eqb_tells)
+  within_names worker old new told (Comes who v there idle flies others count) owned id w at = grind (arith, same_ids)
+  within_names worker old new told (Goes who flies idle others ends count) owned id w at = grind (arith, same_ids, flying_some)
 
   owned_by : (old new : Driving S F) (user_data : ℕ) → Turns old new user_data → operations_in old.ring user_data ≤ cond (is_some (named old.requests user_data)) 1 0 → operations_in new.ring user_data ≤ cond (is_some (named new.requests user_data)) 1 0
-  owned_by old new user_data (Stays less on) was = few_stay (operations_in old.ring user_data) (operations_in new.ring user_data) (named old.requests user_data) (named new.requests user_data) less on was
-  owned_by old new user_data (Begins less none some) was = few_begin (operations_in old.ring user_data) (operations_in new.ring user_data) (named old.requests user_data) (named new.requests user_data) less none some was
-  owned_by old new user_data (Over less) was = let none = few_over (operations_in old.ring user_data) (operations_in new.ring user_data) (named old.requests user_data) less was in omega (arith, none)
+  owned_by = grind (arith, few_stay, few_begin, few_over)
 
   pub kept_owned : (worker : ℕ) (old new : Driving S F) (g g' : Gates) → Call worker old new g g' → Says old → IsOwned old → IsOwned new
   kept_owned worker old new g g' call says owned =
@@ -246,11 +282,7 @@ module _ {S F : Type 0} where
   gone_told worker old new told (Quiet keeps on) id flies over = absurd (false≢true (sym (ap is_flying over) ∙ goes_flying old.requests new.requests on id.0 flies))
   gone_told worker old new told (Loses drops on) id flies over = absurd (false≢true (sym (ap is_flying over) ∙ goes_flying old.requests new.requests on id.0 flies))
   gone_told worker old new told (Arrives new_id within keeps free others idle) id flies over = absurd (false≢true (sym (ap is_flying over) ∙ arrives_flying old.requests new.requests new_id free others id.0 flies))
-  gone_told worker old new told (Comes who w there idle flying others count) id flies over =
-      elim (same_ids id.0 who.0) [
-        | inl same ↦ absurd (false≢true (sym (ap is_flying over) ∙ ap (λ (n : Id). is_flying (waiter_at new.requests n)) same ∙ flying))
-        | inr other ↦ absurd (false≢true (sym (ap is_flying over) ∙ ap is_flying (others id.0 other) ∙ flies))
-      ]
+  gone_told worker old new told (Comes who w there idle flying others count) id flies over = grind (arith, same_ids)
   gone_told worker old new told (Goes who flying idle others ends count) id flies over =
       elim (same_tells id who) [
         | inr other ↦ absurd (false≢true (sym (ap is_flying over) ∙ ap is_flying (others id.0 other.1) ∙ flies))

@@ -1,14 +1,6 @@
 -- Whose the operations of rings are at each moment of a run.
 use Rattle.std.proofs.Common.{◌≡◌, ℕ, zero, suc, ◌≤◌, ◌<◌, true, false, cond, [], ◌∷◌, Option, Some, None, refl, sym, ap, subst, ◌∙◌, inl, inr, arith}
-use Rattle.std.specs.Prelude.{IsSomeAnd}
-use Rattle.std.proofs.lemmas.Option.{same_Some}
-use Rattle.exec_ring.specs.Completions.{is_operation}
-use Rattle.exec_waiters.specs.{Ids.user_data_of, States.named}
-use Rattle.exec_opens.specs.declared.opens.WaiterKey.{WaiterKey}
-use Rattle.exec_driver.specs.{Placed.Says, Steps.completed_in}
-use Rattle.exec_driver.proofs.Words.{Completion, Id, Waiter, WaiterId, Driving, request_at, result_in, waiter_at, is_flying, is_some, eqb_tells}
-use Rattle.exec_driver_laws.specs.{Owning.{operations_in, HasOwner, IsOwned, KeepsOperations}, OwningExamples.{polling, its_entry}, Sharing.{Gates, CallsOne, AreFresh, IsRun, key_of, end_by_reap}}
-use Rattle.exec_driver_laws.proofs.{OwningCalls.{Turns, Stays, Begins, Over, turns, call_keeps, kept_owned, flying_some, named_there, named_back, gone_told}, Everywhere.each, Promises.completed_named, Standing.{none_past, reads}}
+use Rattle.exec_driver_laws.{proofs.{Words.{IsSomeAnd, same_Some, is_operation, user_data_of, named, WaiterKey, Says, completed_in, Completion, Id, Waiter, WaiterId, Driving, request_at, result_in, waiter_at, is_flying, is_some, eqb_tells}, OwningCalls.{Turns, Stays, Begins, Over, turns, call_keeps, kept_owned, flying_some, named_there, named_back, gone_told}, Everywhere.{each, says_always}, Promises.completed_named, Standing.{none_past, reads}}, specs.{Owning.{operations_in, HasOwner, IsOwned}, OwningExamples.{polling, its_entry}, Sharing.{Gates, CallsOne, AreFresh, IsRun, key_of, end_by_reap}}}
 
 -- the user data of a request is that of an operation
 pub names_operation : (id : Id) → id.index < 4294967295 → is_operation (user_data_of id) ≡ true
@@ -17,10 +9,6 @@ names_operation = grind (arith, eqb_tells)
 module _ {S F : Type 0} where
   pub kept : (drivers drivers' : ℕ → Driving S F) (g g' : Gates) → CallsOne drivers drivers' g g' → ((i : ℕ) → Says (drivers i)) → ((i : ℕ) → IsOwned (drivers i)) → (i : ℕ) → IsOwned (drivers' i)
   kept drivers drivers' g g' calls says owned = each IsOwned calls (kept_owned calls.worker _ _ g g' calls.call (says calls.worker) (owned calls.worker)) owned
-
-  pub says_always : (drivers : ℕ → ℕ → Driving S F) (g : ℕ → Gates) → IsRun drivers g → (n i : ℕ) → Says (drivers n i)
-  says_always drivers g run zero i = run.first.says i
-  says_always drivers g run (suc n) i = each Says (run.next n) (run.next n).says (says_always drivers g run n) i
 
   none_named : (drivers : ℕ → Driving S F) (g : Gates) → AreFresh drivers g → (i : ℕ) (id : WaiterId) (w : Waiter S F) → request_at (drivers i) id ≡ Some w → id.0.index < 4294967295
   none_named = grind (arith, none_past, reads)
@@ -86,17 +74,8 @@ module _ {S F : Type 0} where
 
 -- THE WORKED EXAMPLES
 
-pub polls : IsOwned (polling true (its_entry ∷ []))
-polls = record { names = grind arith; owned = grind (arith, eqb_tells) }
-
 pub unowned : IsOwned (polling false (its_entry ∷ [])) → ⊥
 unowned owned = let one : 1 ≤ 0 = owned.owned 0 refl in omega (arith, one)
 
 pub two : IsOwned (polling true (its_entry ∷ its_entry ∷ [])) → ⊥
 two owned = let two : 2 ≤ 1 = owned.owned 0 refl in omega (arith, two)
-
-pub lost : KeepsOperations (polling true (its_entry ∷ [])).ring (polling true []).ring → ⊥
-lost keeps = let none : 0 ≡ 1 = keeps 0 refl in absurd (omega (arith, none))
-
-pub brought : KeepsOperations (polling true []).ring (polling true (its_entry ∷ [])).ring → ⊥
-brought keeps = let one : 1 ≡ 0 = keeps 0 refl in absurd (omega (arith, one))

@@ -1,20 +1,6 @@
 -- Where each request is that isn't over, and its deadline: what each call keeps of that.
 use Rattle.std.proofs.Common.{◌≡◌, ℕ, zero, suc, Bool, true, false, not, cond, ◌||◌, List, Option, Some, None, Result, Ok, Err, refl, sym, subst, ◌∙◌, inl, inr, arith}
-use Rattle.std.proofs.lemmas.{List.Folds.list_any-append, Map.Views.any-filter_same}
-use Rattle.exec_base.specs.{Slab.{next_id}, declared.{error.Error.Error}}
-use Rattle.exec_request.specs.{Requests.{output_of, gate_of}}
-use Rattle.exec_ring.specs.{Landings.Moves, declared.store.Store.Store}
-use Rattle.exec_lists.specs.Lists.{Lists, is_same, without, is_among, first_of, withdrawn, with_queued, with_cancel, without_gated, after_queued, after_enrolment}
-use Rattle.exec_driver.specs.{Placed.Says, declared.driver.reaping.Reaped.Reaped}
-use Rattle.exec_driver.specs.Steps.{permitted, landed_at, taken_in, newcomer, cancelled_at, let_go, timed_out, enrolled_by, queued_or_ended, placed_at, ended}
-use Rattle.exec_driver.proofs.Words.{Ended, Account, Slab, value_at, OpResult, waiter_at, Waiter, Entry, Pending, WaiterId, Driving, request_at, is_queued, is_gated, Observer}
-use Rattle.exec_driver.proofs.Words.{deadline_of, is_some, Request, Submission, with_tick, tick_for, after_due, with_permit, taken_out, open_after, account_in, file_of, Deferred, OpenState}
-use Rattle.exec_driver.proofs.{Arriving.put, Endings.one_changed, Windows.deadline_same}
-use Rattle.exec_lists.proofs.Names.{same_tells}
-use Rattle.exec_driver_laws.specs.Waiting.{is_placed, is_timed, ArePlaced, AreTimed, Waits}
-use Rattle.exec_driver_laws.specs.Sharing.{Gates, Call, Admit, Join, Observe, SetWaker, Forward, Orphan, Expire, Enrol, Grant, Stage, Land, Reap, SetAccount, Recount, Leave, Other, CallsOne, AreFresh, IsRun}
-use Rattle.exec_driver_laws.proofs.Everywhere.{Holds, Others, each, became, written_all, written_but, filled_all, filled_but, finished_all, taken_all, waked_all, forwarded_all, orphaned_all}
-use Rattle.exec_driver_laws.proofs.{Calling.{ReapsThere, reap_tells}, OwningRuns.says_always, Standing.{none_past, reads}}
+use Rattle.exec_driver_laws.{proofs.{Words.{list_any-append, any-filter_same, next_id, Error, output_of, gate_of, Moves, Store, Lists, is_same, without, is_among, first_of, withdrawn, with_queued, with_cancel, without_gated, after_queued, after_enrolment, Says, Reaped, permitted, landed_at, taken_in, newcomer, cancelled_at, let_go, timed_out, enrolled_by, queued_or_ended, placed_at, ended, Ended, Account, Slab, value_at, OpResult, waiter_at, Waiter, Entry, Pending, WaiterId, Driving, request_at, is_queued, is_gated, Observer, deadline_of, is_some, Request, Submission, with_tick, tick_for, after_due, with_permit, taken_out, open_after, account_in, file_of, Deferred, OpenState, put, one_changed, deadline_same, same_tells}, Everywhere.{says_always, Holds, Others, each, became, written_all, written_but, filled_all, filled_but, finished_all, taken_all, waked_all, forwarded_all, orphaned_all}, Passing.{ReapsThere, reap_tells}, Standing.{none_past, reads}}, specs.{Waiting.{is_placed, is_timed, ArePlaced, AreTimed, Waits}, Sharing.{Gates, Call, Admit, Join, Observe, SetWaker, Forward, Orphan, Expire, Enrol, Grant, Stage, Land, Reap, SetAccount, Recount, Leave, Other, CallsOne, AreFresh, IsRun}}}
 
 -- THE LISTS
 

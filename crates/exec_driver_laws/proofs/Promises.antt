@@ -1,17 +1,6 @@
 -- Why the laws hold.
 use Rattle.std.proofs.Common.{◌≡◌, ℕ, Bool, true, false, List, Option, Some, None, Ok, Err, is_some, refl, sym, ap, ◌∙◌, subst, arith}
-use Rattle.std.proofs.lemmas.Bool.{false≢true}
-use Rattle.exec_base.specs.{declared.{error.Error.Error, slab.Id.Id}, Slab.Slab}
-use Rattle.exec_outcomes.specs.{Accounts.{Account, is_durable, outcome_at_grant}, declared.outcome.{Kind.Kind, OpResult.OpResult, Outcome.TheVariants.Failure}}
-use Rattle.exec_request.specs.{Requests.{asked_of, deadline_of, goes_on_alone, output_of}, States.asks_cancel, declared.{request.Request.{Request}}}
-use Rattle.exec_waiters.specs.{Events.{ending_of, cancelled}, declared.{waiter.{Waiter.Waiter, Entry.Entry}, waiter_id.WaiterId.WaiterId}}
-use Rattle.exec_waiters.proofs.Changes.{entry_of}
-use Rattle.exec_driver.specs.{Driving.{Driving, request_at, is_enrolled}, Placed.{ListsRequests, HasDeadlines}, Steps.{let_go, without_observer, cancelled_at, cancelling, lawful_of}}
-use Rattle.exec_driver_laws.specs.Laws.{ShareGates, IsDurableFlight, GoesOnFlying, is_listed}
-use Rattle.exec_lists.specs.Lists.{Lists, withdrawn, is_among}
-use Rattle.exec_opens.specs.{Opens.{OpenState, holder_at}, declared.opens.WaiterKey.WaiterKey}
-use Rattle.exec_driver.proofs.{Endings.one_changed, Granting.{same_some, permit_there}, Turns.if_tells}
-use Rattle.exec_lists.proofs.Names.{among_without}
+use Rattle.exec_driver_laws.{proofs.Words.{outcome_if_granted, false≢true, Error, Id, Slab, Account, is_durable, OpResult, Failure, asked_of, deadline_of, goes_on_alone, output_of, asks_cancel, Request, ending_of, cancelled, Waiter, Entry, WaiterId, entry_of, Driving, request_at, is_enrolled, ListsRequests, HasDeadlines, let_go, without_observer, cancelled_at, cancelling, lawful_of, Lists, withdrawn, is_among, OpenState, holder_at, WaiterKey, one_changed, same_some, permit_there, if_tells, among_without}, specs.Laws.{ShareGates, IsDurableFlight, GoesOnFlying, is_listed}}
 
 pub untimed : (r : Request) → goes_on_alone r ≡ true → deadline_of r ≡ None
 untimed = grind arith
@@ -23,7 +12,7 @@ never_due d id w lists dated among at = by (goes_on_alone w.request) refl
     by false other = other
     by true alone = absurd (false≢true (sym (ap is_some (untimed w.request alone)) ∙ dated.deadline id w at (ap is_enrolled (sym at) ∙ lists.due id among)))
 
-pub fails_at_grant : (k : Kind) (account : Account) (error : Error) → is_durable k ≡ true → account.failure ≡ Some error → outcome_at_grant k account ≡ Some (Failure error)
+pub fails_at_grant : (r : Request) (account : Account) (error : Error) → is_durable (asked_of r).kind ≡ true → account.failure ≡ Some error → outcome_if_granted r (Some account) ≡ Some (Failure error)
 fails_at_grant = grind arith
 
 pub fails_over : (r : Request) (account : Account) (error : Error) → is_durable (asked_of r).kind ≡ true → account.failure ≡ Some error → ending_of (output_of r (Ok tt) (Some account)) ≡ Err error

@@ -1,17 +1,7 @@
 -- A whole service is calls of its worker, and a whole wait, and so drivers that share gates go on sharing them.
-use Rattle.std.proofs.Common.{◌≡◌, ◌≢◌, inl, inr, eqb, ℕ, Bool, true, false, cond, List, Option, Some, None, refl, sym, ap, subst, ◌∙◌, arith}
-use Rattle.std.proofs.lemmas.Bool.{false≢true}
-use Rattle.exec_driver.specs.{Driving.{is_full, is_gated, is_queued, is_unenrolled}, Placed.Says, Steps.{ReapsNext, Grants, advanced_to, cancel_staged, poll_staged, entered, with_landings}, Turns.must_enter, declared.driver.{reaping.Reaped.Reaped}}
-use Rattle.exec_driver.specs.Service.{entered_if, Repeats, NoStep, OneMore, Passes, permit_of, permit_by, Reached, ReapsOne, ExpiresOne, EnrolsOne, GrantsAt, Turn}
-use Rattle.exec_driver.specs.Service.{NoTurn, StagesEntry, Cancel, Request, WakePoll, Enter, GrantsBelow, NoGate, NextGate, StagesAll, Staged, Busy, Parks, Refused, Waited, ServesInOrder}
-use Rattle.exec_driver.proofs.Words.{eqb_tells, Deferred, Waiter, WaiterId, Driving, request_at, OpenState, deadline_of, account_in, file_of}
-use Rattle.exec_opens.specs.declared.opens.WaiterKey.{WaiterKey}
-use Rattle.exec_driver_laws.specs.Sharing.{Gates, LineUp, Call, Expire, Enrol, Grant, Stage, Reap, Leave, Other, key_of, with_leaving, leaving_by, passed_on}
-use Rattle.exec_driver_laws.specs.Serving.{Calls, NoCall, NextCall, IsCalls}
-use Rattle.exec_driver_laws.proofs.{LawfulRing.{cancel_within, poll_within, enter_within}, OwningRing.{cancel_keeps, poll_keeps, enter_keeps, advance_keeps, advance_places, keeps_same}, Uncancelled.first_among, Sharing.line_up_kept}
-use Rattle.exec_driver_laws.specs.{Lawful.EndsLawfully, Owning.KeepsOperations, Waiting.KeepsPlaces}
-use Rattle.exec_lists.specs.Lists.{Lists}
-use Rattle.exec_ring.specs.Rings.{RingState}
+use Rattle.std.proofs.Common.{◌≡◌, ◌≢◌, inl, inr, eqb, ℕ, Bool, true, false, cond, List, Option, Some, None, refl, sym, subst, ◌∙◌, arith}
+use Rattle.exec_driver.specs.Service.{Cancel, Request}
+use Rattle.exec_driver_laws.{proofs.{Words.{is_full, is_gated, is_queued, is_unenrolled, Says, ReapsNext, Grants, advanced_to, cancel_staged, poll_staged, entered, with_landings, must_enter, Reaped, entered_if, Repeats, NoStep, OneMore, Passes, permit_of, permit_by, Reached, ReapsOne, ExpiresOne, EnrolsOne, GrantsAt, Turn, NoTurn, StagesEntry, WakePoll, Enter, GrantsBelow, NoGate, NextGate, StagesAll, Staged, Busy, Parks, Refused, Waited, ServesInOrder, eqb_tells, Deferred, Waiter, WaiterId, Driving, request_at, OpenState, deadline_of, account_in, file_of, WaiterKey}, OwningRing.{cancel_within, poll_within, enter_within, cancel_keeps, poll_keeps, enter_keeps, advance_keeps, advance_places, keeps_same}, Passing.first_among, Sharing.line_up_kept}, specs.{Sharing.{Gates, LineUp, Call, Expire, Enrol, Grant, Stage, Reap, Leave, Other, key_of, with_leaving, leaving_by, passed_on}, Serving.{Calls, NoCall, NextCall, IsCalls}, Lawful.EndsLawfully, Owning.KeepsOperations, Waiting.KeepsPlaces}}
 
 left_by : (permit : Option ℕ) (key : WaiterKey) (leaving : ℕ → Option WaiterKey) (file : ℕ) → permit ≡ Some file → with_leaving permit key leaving file ≡ Some key
 left_by = grind arith
@@ -23,19 +13,13 @@ along Q keeps (OneMore a b before step) start = keeps a b step (along Q keeps be
 
 module _ {S F : Type 0} where
   gated_is : (o : Option (Waiter S F)) → is_gated o ≡ true → (w : Waiter S F) × (o ≡ Some w)
-  gated_is None is = absurd (false≢true is)
-  gated_is (Some w) is = (w, refl)
+  gated_is = grind arith
 
   queued_is : (o : Option (Waiter S F)) → is_queued o ≡ true → (w : Waiter S F) × (o ≡ Some w)
-  queued_is None is = absurd (false≢true is)
-  queued_is (Some w) is = (w, refl)
+  queued_is = grind arith
 
   timed_is : (o : Option (Waiter S F)) → is_unenrolled o ≡ true → (w : Waiter S F) × (o ≡ Some w) × (deadline : ℕ) × (deadline_of w.request ≡ Some deadline)
   timed_is = grind arith
-
-  others : (worker : ℕ) (old new d : Driving S F) (h : Gates) → new ≡ with_landings new d → d.requests ≡ old.requests → KeepsOperations old.ring d.ring → EndsLawfully old.ring d.ring → KeepsPlaces old.lists d.lists → Call worker old new h h
-  others worker old new d h is same keeps lawful places =
-      Other (grind arith) (subst (λ (r : RingState). KeepsOperations old.ring r) (sym (ap (λ (m : Driving S F). m.ring) is)) keeps) (subst (λ (r : RingState). EndsLawfully old.ring r) (sym (ap (λ (m : Driving S F). m.ring) is)) lawful) (subst (λ (l : Lists). KeepsPlaces old.lists l) (sym (ap (λ (m : Driving S F). m.lists) is)) places) refl
 
   -- such calls lead to a driver that says what each says
   abbrev Leads : (worker : ℕ) (old d : Driving S F) (g : Gates) (opens : List OpenState) → Type 0
@@ -43,6 +27,23 @@ module _ {S F : Type 0} where
 
   plain : (worker : ℕ) (old d d' : Driving S F) (g : Gates) (opens : List OpenState) → ((h : Gates) → Call worker d d' h h) → Says d' → Leads worker old d g opens → Leads worker old d' g opens
   plain worker old d d' g opens call says before = (says, record { gates = before.1.gates; opens_after = before.1.opens_after; calls = NextCall d d' before.1.gates before.1.gates before.1.calls (call before.1.gates) says })
+
+  -- the requests stay, and the operations and the lists as for any other call
+  abbrev Same : Driving S F → Driving S F → Type 0
+  Same d d' = (d'.requests ≡ d.requests) × KeepsOperations d.ring d'.ring × EndsLawfully d.ring d'.ring × KeepsPlaces d.lists d'.lists
+
+  entered_same : (enters : Bool) (d : Driving S F) → Says d → Same d (entered_if enters d)
+  entered_same true d says = (refl, enter_keeps d says.lands, enter_within d says.lands, record { queued = refl; gated = refl; enrolments = refl })
+  entered_same false d says = (refl, keeps_same d.ring d.ring refl, λ user_data most is was. was, record { queued = refl; gated = refl; enrolments = refl })
+
+  polled_same : (armed : Bool) (d : Driving S F) → Same d (cond armed d (poll_staged d))
+  polled_same true d = (refl, keeps_same d.ring d.ring refl, λ user_data most is was. was, record { queued = refl; gated = refl; enrolments = refl })
+  polled_same false d = (refl, poll_keeps d, poll_within d, record { queued = refl; gated = refl; enrolments = refl })
+
+  -- one such call more
+  other_one : (worker : ℕ) (old a d b : Driving S F) (g : Gates) (opens : List OpenState) → Same a d → b ≡ with_landings b d → Says b → Leads worker old a g opens → Leads worker old b g opens
+  other_one worker old a d b g opens same is =
+      plain worker old a b g opens (λ h. Other (grind arith) (subst (λ (m : Driving S F). KeepsOperations a.ring m.ring) (sym is) same.1) (subst (λ (m : Driving S F). EndsLawfully a.ring m.ring) (sym is) same.2) (subst (λ (m : Driving S F). KeepsPlaces a.lists m.lists) (sym is) same.3) refl)
 
   -- the holder of the gate that is named leaves it
   passes_on : (worker : ℕ) (old d : Driving S F) (g h : Gates) (permit : Option ℕ) (id : WaiterId) (opens : List OpenState) (before after : Option (List ℕ)) → ((file : ℕ) → permit ≡ Some file → h.leaving file ≡ Some (key_of worker id))
@@ -92,12 +93,9 @@ module _ {S F : Type 0} where
   stages_one worker old g opens a b (Request id room none may first stages) says leads =
       let there = queued_is (request_at a id) (leads.0.lists.queued id (first_among id a.lists.queued first)) in
       plain worker old a b g opens (λ h. Stage id there.0 (account_in opens (file_of there.0.request)) first there.1 (stages there.0 there.1) refl) says leads
-  stages_one worker old g opens a b (Cancel id room first is) says leads =
-      plain worker old a b g opens (λ h. others worker a b (cancel_staged a id) h is refl (cancel_keeps a id) (cancel_within a id) (record { queued = refl; gated = refl; enrolments = refl })) says leads
-  stages_one worker old g opens a b (WakePoll room none may unarmed is) says leads =
-      plain worker old a b g opens (λ h. others worker a b (poll_staged a) h is refl (poll_keeps a) (poll_within a) (record { queued = refl; gated = refl; enrolments = refl })) says leads
-  stages_one worker old g opens a b (Enter full unstaged calm is) says leads =
-      plain worker old a b g opens (λ h. others worker a b (entered a) h is refl (enter_keeps a leads.0.lands) (enter_within a leads.0.lands) (record { queued = refl; gated = refl; enrolments = refl })) says leads
+  stages_one worker old g opens a b (Cancel id room first is) says leads = other_one worker old a (cancel_staged a id) b g opens (refl, cancel_keeps a id, cancel_within a id, record { queued = refl; gated = refl; enrolments = refl }) is says leads
+  stages_one worker old g opens a b (WakePoll room none may unarmed is) says leads = other_one worker old a (poll_staged a) b g opens (polled_same false a) is says leads
+  stages_one worker old g opens a b (Enter full unstaged calm is) says leads = other_one worker old a (entered a) b g opens (entered_same true a leads.0) is says leads
 
   -- ALL STEPS
 
@@ -105,50 +103,33 @@ module _ {S F : Type 0} where
   staged_all worker old g opens a b (Staged steps done) before = along (λ d. Leads worker old d g opens) (λ d d' step. stages_one worker old g opens d d' step.0 step.1) steps before
   staged_all worker old g opens a b (Busy full says steps is unstaged busy enters) before =
       let way = along (λ d. Leads worker old d g opens) (λ d d' step. stages_one worker old g opens d d' step.0 step.1) steps before in
-      plain worker old full b g opens (λ h. others worker full b (entered full) h enters refl (enter_keeps full way.0.lands) (enter_within full way.0.lands) (record { queued = refl; gated = refl; enrolments = refl })) says way
+      other_one worker old full (entered full) b g opens (entered_same true full way.0) enters says way
 
   grants_all : (worker : ℕ) (old : Driving S F) (g : Gates) (first : Reached S F) (end : ℕ) (last : Reached S F) → GrantsBelow worker first end last → Leads worker old first.driver g first.opens → Leads worker old last.driver g last.opens
   grants_all worker old g first end last NoGate before = before
   grants_all worker old g first end last (NextGate from file a b steps lowest grants) before = grants_one worker file old g a b grants (grants_all worker old g first from a steps before)
 
-  -- the requests stay, and the operations and the lists as for any other call
-  abbrev Same : Driving S F → Driving S F → Type 0
-  Same d d' = (d'.requests ≡ d.requests) × KeepsOperations d.ring d'.ring × EndsLawfully d.ring d'.ring × KeepsPlaces d.lists d'.lists
-
-  entered_same : (enters : Bool) (d : Driving S F) → Says d → Same d (entered_if enters d)
-  entered_same true d says = (refl, enter_keeps d says.lands, enter_within d says.lands, record { queued = refl; gated = refl; enrolments = refl })
-  entered_same false d says = (refl, keeps_same d.ring d.ring refl, λ user_data most is was. was, record { queued = refl; gated = refl; enrolments = refl })
-
-  polled_same : (armed : Bool) (d : Driving S F) → Same d (cond armed d (poll_staged d))
-  polled_same true d = (refl, keeps_same d.ring d.ring refl, λ user_data most is was. was, record { queued = refl; gated = refl; enrolments = refl })
-  polled_same false d = (refl, poll_keeps d, poll_within d, record { queued = refl; gated = refl; enrolments = refl })
-
-  -- one such call more
-  other_one : (worker : ℕ) (old d e d' : Driving S F) (g : Gates) → Same d e → d' ≡ with_landings d' e → Says d' → Leads worker old d g g.opens → Leads worker old d' g g.opens
-  other_one worker old d e d' g same is says leads = plain worker old d d' g g.opens (λ h. others worker d d' e h is same.0 same.1 same.2 same.3) says leads
-
   pub park_calls : (worker : ℕ) (calm : Bool) (old new : Driving S F) (g : Gates) → Parks calm old new → IsCalls worker old new g g.opens
   park_calls worker calm old new g (Refused says may way last) =
-      (other_one worker old old (entered_if (is_full old) old) new g (entered_same (is_full old) old says) way last (says, record { gates = g; opens_after = refl; calls = NoCall })).1
+      (other_one worker old old (entered_if (is_full old) old) new g g.opens (entered_same (is_full old) old says) way last (says, record { gates = g; opens_after = refl; calls = NoCall })).1
   park_calls worker calm old new g (Waited d e says may way says_way polls polled enters last) =
       let start : Leads worker old old g g.opens = (says, record { gates = g; opens_after = refl; calls = NoCall }) in
-      let ready = other_one worker old old (entered_if (is_full old) old) d g (entered_same (is_full old) old says) way says_way start in
-      let out = other_one worker old d (cond d.armed d (poll_staged d)) e g (polled_same d.armed d) polls polled ready in
-      (other_one worker old e (entered_if calm e) new g (entered_same calm e polled) enters last out).1
+      let ready = other_one worker old old (entered_if (is_full old) old) d g g.opens (entered_same (is_full old) old says) way says_way start in
+      let out = other_one worker old d (cond d.armed d (poll_staged d)) e g g.opens (polled_same d.armed d) polls polled ready in
+      (other_one worker old e (entered_if calm e) new g g.opens (entered_same calm e polled) enters last out).1
 
   pub service_calls : (worker now : ℕ) (defer answer : Bool) (old new : Reached S F) (g : Gates) → ServesInOrder worker now defer answer old new → g.opens ≡ old.opens → IsCalls worker old.driver new.driver g new.opens
   service_calls worker now defer answer old new g s opens =
       let start : Leads worker old.driver old.driver g old.opens = (s.says, record { gates = g; opens_after = opens; calls = NoCall }) in
       let reaped = along (λ r. Leads worker old.driver r.driver g r.opens) (reaps_one worker old.driver g) s.reaps start in
       let moved = advanced_to s.reaped.driver now in
-      let turned = plain worker old.driver s.reaped.driver moved g s.reaped.opens (λ h. others worker s.reaped.driver moved moved h refl refl (advance_keeps s.reaped.driver now) (λ user_data most is was. was) (advance_places s.reaped.driver now)) s.says_turned reaped in
+      let turned = other_one worker old.driver s.reaped.driver moved moved g s.reaped.opens (refl, advance_keeps s.reaped.driver now, λ user_data most is was. was, advance_places s.reaped.driver now) refl s.says_turned reaped in
       let told = along (λ x. Leads worker old.driver x.0 g s.reaped.opens) (expires_one worker old.driver g s.reaped.opens) s.expires turned in
       let enrolled = along (λ x. Leads worker old.driver x.0 g s.reaped.opens) (enrols_one worker now old.driver g s.reaped.opens) s.enrols told in
       let granted = grants_all worker old.driver g _ s.grants.end s.granted s.grants.below enrolled in
       let staged = staged_all worker old.driver g s.granted.opens s.granted.driver s.staged s.stages granted in
       let enters = must_enter s.staged defer s.granted.told in
-      let same = entered_same enters s.staged staged.0 in
-      let worked = plain worker old.driver s.staged s.worked g s.granted.opens (λ h. others worker s.staged s.worked (entered_if enters s.staged) h s.works same.0 same.1 same.2 same.3) s.says_worked staged in
+      let worked = other_one worker old.driver s.staged (entered_if enters s.staged) s.worked g s.granted.opens (entered_same enters s.staged staged.0) s.works s.says_worked staged in
       (along (λ r. Leads worker old.driver r.driver g r.opens) (reaps_one worker old.driver g) s.reaps_again worked).1
 
   same_drivers : (worker : ℕ) (drivers drivers' : ℕ → Driving S F) → drivers worker ≡ drivers' worker → ((other : ℕ) → other ≢ worker → drivers' other ≡ drivers other) → (n : ℕ) → drivers n ≡ drivers' n

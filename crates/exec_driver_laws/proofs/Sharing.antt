@@ -1,16 +1,6 @@
 -- Drivers that share gates go on sharing them: what each call keeps of where requests stand.
-use Rattle.std.proofs.Common.{◌≡◌, ◌≢◌, ◌⊎◌, ℕ, zero, suc, ◌<◌, ◌^◌, eqb, true, false, cond, List, Option, Some, None, refl, sym, ap, subst, ◌∙◌, inl, inr, arith}
-use Rattle.std.specs.Prelude.{replicate}
-use Rattle.exec_base.specs.{Slab.{next_id, IsPast}}
-use Rattle.exec_request.specs.Requests.{gate_of, output_of, record_after}
-use Rattle.exec_waiters.proofs.{Changes.{at_by}, Over.over}
-use Rattle.exec_opens.specs.{Opens.{holder_at, open_at, with_open, with_named, with_account, joined, passed, placed, writing, keeping}, declared.opens.WaiterKey.WaiterKey}
-use Rattle.exec_driver_laws.specs.{Sharing.{Gates, IsGiven, StandsIn, StandsAt, key_of, at_gate, with_leaving, leaving_by, with_lines, passed_on, LineUp, Call, Admit, Join, Observe, SetWaker, Forward, Orphan, Expire, Enrol, Grant, Stage, Land, Reap, SetAccount, Recount, Leave, Other, CallsOne, AreFresh, IsRun}, Laws.IsDurableFlight, Lines.KeepsLine}
-use Rattle.exec_driver.specs.{Service.permit_by, Placed.FliesPermitted, declared.driver.{reaping.Reaped.Reaped, staging.Granted.Granted}, Steps.{queued_or_ended, permitted, taken_in, newcomer, opens_after_end, Grants, Reaps, ReapsNext, plainly_written, taken_out, tick_for, landed_at, open_after, permit_after}, Admission.Admits}
-use Rattle.exec_lists.specs.Lists.{after_due, after_enrolment}
-use Rattle.exec_driver.proofs.{Words.{is_some, false≢true, Ended, Account, with_permit, file_of, account_in, Deferred, eqb_tells, Slab, value_at, waiter_at, Request, OpResult, Waiter, Entry, Pending, WaiterId, Driving, request_at, OpenState, fresh_open, Observer, entry_of}, Endings.one_changed, Granting.same_some}
-use Rattle.exec_driver_laws.proofs.{Promises.at_most_one, Calling.{taken_fits, waked_fits, forwarded_fits, cancelled_fits, let_go_fits, enrolled_fits, granted_fits, placed_fits, reap_tells}, Standing.{gate_kept, gate_moved, open_tells, SameLines, named_lines, unmoved, then_lines, joined_holds, joined_stands, left_stands, holder_stands, Fits, AllFit, asking_last, all_over, reads, none_past, written_fits, filled_fits, filled_last, becomes}}
-use Rattle.exec_waiters.specs.States.{gate_in}
+use Rattle.std.proofs.Common.{◌≡◌, ◌≢◌, ◌⊎◌, ℕ, zero, suc, ◌<◌, ◌^◌, eqb, Bool, true, false, cond, List, Option, Some, None, refl, sym, ap, subst, ◌∙◌, inl, inr, arith}
+use Rattle.exec_driver_laws.{proofs.{Words.{placed_at, placed_is, deadline_of, Ready, replicate, next_id, IsPast, gate_of, output_of, at_by, over, holder_at, open_at, with_open, with_named, with_account, joined, passed, placed, writing, keeping, WaiterKey, permit_by, FliesPermitted, Reaped, Granted, queued_or_ended, permitted, taken_in, newcomer, opens_after_end, Grants, Reaps, ReapsNext, plainly_written, taken_out, landed_at, open_after, permit_after, Admits, is_some, false≢true, Ended, Account, with_permit, file_of, account_in, Deferred, eqb_tells, Slab, waiter_at, Request, OpResult, Waiter, Entry, Pending, WaiterId, Driving, request_at, OpenState, fresh_open, Observer, entry_of, one_changed, same_some, gate_in}, Passing.{Passes, Rests, gates_same, mild, reap_tells}, Promises.at_most_one, Standing.{IsLast, finished_fits, removed_fits, there_last, gate_kept, gate_moved, open_tells, SameLines, named_lines, unmoved, then_lines, joined_holds, joined_stands, left_stands, holder_stands, Fits, AllFit, asking_last, all_over, reads, none_past, written_fits, filled_fits, filled_last, becomes}}, specs.{Sharing.{Gates, IsGiven, StandsIn, StandsAt, key_of, at_gate, with_leaving, leaving_by, with_lines, passed_on, LineUp, Call, Admit, Join, Grant, Stage, Land, Reap, SetAccount, Recount, Leave, Other, CallsOne, AreFresh, IsRun, lets_out}, Laws.IsDurableFlight, Lines.KeepsLine}}
 
 -- who is to leave a gate, where one was named
 leaving_tells : (gate : ℕ) (who : Option WaiterKey) (leaving : ℕ → Option WaiterKey) (file : ℕ) (key : WaiterKey) → at_gate gate who leaving file ≡ Some key → ((file ≡ gate) × (who ≡ Some key)) ⊎ ((file ≢ gate) × (leaving file ≡ Some key))
@@ -24,8 +14,7 @@ abbrev Hold : Gates → Type 0
 Hold g = (key : WaiterKey) (file : ℕ) → g.leaving file ≡ Some key → holder_at g.opens file ≡ Some key
 
 permit_is : (how : Option Ended) (file other : ℕ) → cond (is_some how) (Some file) None ≡ Some other → file ≡ other
-permit_is None file other is = absurd (cc)
-permit_is (Some how) file other is = cc
+permit_is = grind arith
 
 nobody_stands : (count file : ℕ) (key : WaiterKey) → StandsAt (replicate count fresh_open) file key → ⊥
 nobody_stands zero file key stands = stands
@@ -39,10 +28,43 @@ set_account_lines g g' file account is = subst (SameLines g) (sym is) (named_lin
 recounted_lines : (g g' : Gates) (file : Option ℕ) (change : OpenState → OpenState) → ((o : OpenState) → KeepsLine o (change o)) → g' ≡ with_lines g (with_named g.opens file change) → SameLines g g'
 recounted_lines g g' file change keeps is = subst (SameLines g) (sym is) (named_lines g file change (λ o. ((keeps o).holder, (keeps o).waiting)))
 
+admitted_lines : (g : Gates) (request : Request) → SameLines g (with_lines g (with_named (with_named g.opens (gate_of request) placed) (plainly_written request) writing))
+admitted_lines g request =
+    let one = with_lines g (with_named g.opens (gate_of request) placed) in
+    then_lines g one (with_lines one (with_named one.opens (plainly_written request) writing)) (named_lines g (gate_of request) placed (λ o. (refl, refl))) (named_lines one (plainly_written request) writing (λ o. (refl, refl)))
+
+relines : (g g' : Gates) → SameLines g g' → SameLines g (with_lines g g'.opens)
+relines g g' same = record { holder = same.holder; stands = same.stands; stood = same.stood; leaving = λ file. refl }
+
 module _ {S F : Type 0} where
   end_lines : (g : Gates) (w : Waiter S F) (how : Option Ended) → SameLines g (with_lines g (opens_after_end g.opens w how))
-  end_lines g w None = unmoved g g refl
-  end_lines g w (Some how) = named_lines g (file_of w.request) (keeping (record_after w.request how (account_in g.opens (file_of w.request)))) (λ o. (refl, refl))
+  end_lines = grind (arith, unmoved, named_lines)
+
+  reaped_lines : (g : Gates) (file : Option ℕ) (account : Option Account) (w : Waiter S F) (how : Option Ended) → SameLines g (with_lines g (opens_after_end (with_account g.opens file account) w how))
+  reaped_lines g file account w how =
+      let one = with_lines g (with_account g.opens file account) in
+      then_lines g one (with_lines one (opens_after_end one.opens w how)) (named_lines g file (keeping account) (λ o. (refl, refl))) (end_lines one w how)
+
+  -- somebody joins a line, or leaves it
+  abbrev moves_lines : {worker : ℕ} {old new : Driving S F} {g g' : Gates} → Call worker old new g g' → Bool
+  moves_lines (Join id fits same is) = true
+  moves_lines (Leave id file leaves same is) = true
+  moves_lines call = false
+
+  pub call_lines : (worker : ℕ) (old new : Driving S F) (g g' : Gates) (call : Call worker old new g g') → moves_lines call ≡ false → SameLines g (with_lines g g'.opens)
+  call_lines worker old new g g' (Admit id request observer now next within never admits leaving) rest = subst (λ (o : List OpenState). SameLines g (with_lines g o)) (sym admits.opens_after) (admitted_lines g request)
+  call_lines worker old new g g' (Grant before after file granted w at grants leaving) rest =
+      subst (λ (o : List OpenState). SameLines g (with_lines g o)) (sym (grants.grants w at).opens_after) (end_lines g (with_permit w) granted.ended)
+  call_lines worker old new g g' (Reap before after told reap leaving) rest =
+      elim (reap_tells old new g.opens g'.opens before after told reap) [
+        | inl none ↦ subst (λ (o : List OpenState). SameLines g (with_lines g o)) (sym none.same) (unmoved g g refl)
+        | inr there ↦ subst (λ (o : List OpenState). SameLines g (with_lines g o)) (sym there.reaps.opens_after) (reaped_lines g (file_of there.w.request) _ (record there.w { in_flight = false; request = there.reaps.request }) there.reaps.answer)
+      ]
+  call_lines worker old new g g' (SetAccount file account same is) rest = relines g g' (set_account_lines g g' file account is)
+  call_lines worker old new g g' (Recount file change keeps same is) rest = relines g g' (recounted_lines g g' file change keeps is)
+  call_lines worker old new g g' (Join id fits same is) rest = absurd (false≢true (sym rest))
+  call_lines worker old new g g' (Leave id file leaves same is) rest = absurd (false≢true (sym rest))
+  call_lines worker old new g g' other rest = relines g g' (unmoved g g' (gates_same other refl))
 
   -- WHAT A CALL KEEPS: where the worker's own requests stand, where those of the others do, and who is to leave holds
 
@@ -59,18 +81,30 @@ module _ {S F : Type 0} where
   by_lines : (worker : ℕ) (s : Slab (Entry S F)) (g g' : Gates) → SameLines g g' → Hold g → AllFit g worker s → Keeps worker s g g'
   by_lines = grind (arith, all_over)
 
-  by_driver : (worker : ℕ) (new d : Driving S F) (g g' : Gates) → g' ≡ g → new ≡ d → Hold g → AllFit g worker d.requests → Keeps worker new.requests g g'
-  by_driver worker new d g g' same is hold all =
-      subst (λ (m : Driving S F). Keeps worker m.requests g g') (sym is) (by_lines worker d.requests g g' (unmoved g g' same) hold all)
-
   room_fits : (g : Gates) (worker : ℕ) (s : Slab (Entry S F)) (room : ℕ) → AllFit g worker s → AllFit g worker (record s { room = room })
   room_fits g worker s room all =
       record { fits = λ id w at. all.fits id w at; given = λ id file stands. let was = all.given id file stands in record { fits = was.fits; past = was.past } }
 
+  granted_fits : (g : Gates) (worker : ℕ) (d : Driving S F) (id : WaiterId) (w : Waiter S F) (how : Option Ended) (account : Option Account) → IsLast d.requests id.0 → AllFit g worker d.requests → AllFit g worker (queued_or_ended d id w how account).requests
+  granted_fits g worker d id w None account last all = all
+  granted_fits g worker d id w (Some how) account last all = finished_fits g worker d.requests id (output_of w.request how account) w.observer last all
+
+  placed_fits : (g : Gates) (worker : ℕ) (d : Driving S F) (id : WaiterId) (w : Waiter S F) (now : ℕ) → IsLast d.requests id.0 → AllFit g worker d.requests → AllFit g worker (placed_at d id w now).requests
+  placed_fits = grind (arith, placed_is, deadline_of, finished_fits)
+
+  passes : (g : Gates) (old : Driving S F) (worker : ℕ) (told : Option (WaiterKey × Ended)) (out : Option WaiterId) → Passes old (Rests old) worker told out (AllFit g worker)
+  passes g old worker told out =
+      record {
+        becomes = λ s id w w' at rests. becomes g worker s id w w' at (ap gate_of rests.request) (λ has. sym rests.permit ∙ has);
+        ends = λ s id w how account at idle over. finished_fits g worker s id (output_of w.request how account) w.observer (asking_last s id.0 w at);
+        leaves = λ s id output at lets. removed_fits g worker s id (there_last s id.0 (Ready output) at);
+        room = room_fits g worker;
+      }
+
   admitted_keeps : (worker : ℕ) (old new : Driving S F) (g g' : Gates) (id : WaiterId) (request : Request) (observer : Observer S F) (now : ℕ) → next_id old.requests ≡ Some id.0 → (IsPast old.requests id.0 → ⊥) → Admits old new g.opens g'.opens id request observer now → g'.leaving ≡ g.leaving → Stand worker old g → Keeps worker new.requests g g'
   admitted_keeps worker old new g g' id request observer now next never admits leaving stand =
       let opens = with_named (with_named g.opens (gate_of request) placed) (plainly_written request) writing in
-      let lines = then_lines g (with_lines g (with_named g.opens (gate_of request) placed)) (with_lines g opens) (named_lines g (gate_of request) placed (λ o. (refl, refl))) (named_lines (with_lines g (with_named g.opens (gate_of request) placed)) (plainly_written request) writing (λ o. (refl, refl))) in
+      let lines = admitted_lines g request in
       let nowhere : (file : ℕ) → StandsAt g.opens file (key_of worker id) → ⊥ = λ file stands. never (stand.all.given id file stands).past in
       let fresh : Fits g (key_of worker id) (newcomer request observer) =
       record {
@@ -112,13 +146,7 @@ module _ {S F : Type 0} where
   left_all : (g : Gates) (file : ℕ) (who : WaiterKey) (worker : ℕ) (s : Slab (Entry S F)) → g.leaving file ≡ Some who → Hold g → AllFit g worker s → AllFit (passed_on g file) worker s
   left_all g file who worker s leaves hold all =
       record {
-        fits = λ id w at.
-            let fits = all.fits id w at in
-            record {
-              holds = grind (arith, open_tells);
-              lines = λ other stands. fits.lines other (stood id other stands);
-              stays = λ other is. elim (leaving_tells file None g.leaving other (key_of worker id) is) [ inl none ↦ cc | inr before ↦ fits.stays other before.1 ];
-            };
+        fits = λ id w at. let fits = all.fits id w at in record { holds = grind (arith, open_tells); lines = λ other stands. fits.lines other (stood id other stands); stays = grind (arith, leaving_tells) };
         given = λ id other stands. all.given id other (stood id other stands);
       }
     where
@@ -127,13 +155,7 @@ module _ {S F : Type 0} where
 
   -- a request that is over is to leave the gate that it holds
   said_all : (g : Gates) (gate : ℕ) (who : WaiterKey) (worker : ℕ) (s : Slab (Entry S F)) → ((id : WaiterId) (w : Waiter S F) → who ≡ key_of worker id → waiter_at s id.0 ≡ Some w → ⊥) → AllFit g worker s → AllFit (record g { leaving = at_gate gate (Some who) g.leaving }) worker s
-  said_all g gate who worker s ends all =
-      record {
-        fits = λ id w at.
-            let fits = all.fits id w at in
-            grind arith;
-        given = all.given;
-      }
+  said_all g gate who worker s ends all = record { fits = λ id w at. let fits = all.fits id w at in grind arith; given = all.given }
 
   said_keeps : (worker : ℕ) (s : Slab (Entry S F)) (g g' : Gates) (gate : Option ℕ) (id : WaiterId) → ((file : ℕ) → gate ≡ Some file → (holder_at g'.opens file ≡ Some (key_of worker id)) × (waiter_at s id.0 ≡ None)) → Keeps worker s g g' → Keeps worker s g (record g' { leaving = with_leaving gate (key_of worker id) g'.leaving })
   said_keeps worker s g g' None id ends keeps = keeps
@@ -157,8 +179,7 @@ module _ {S F : Type 0} where
       }
 
   granted_over : (d : Driving S F) (id : WaiterId) (w : Waiter S F) (how : Option Ended) (account : Option Account) (file : ℕ) → request_at d id ≡ Some w → cond (is_some how) (Some file) None ≡ Some file → request_at (queued_or_ended d id w how account) id ≡ None
-  granted_over d id w None account file at is = absurd (cc)
-  granted_over d id w (Some how) account file at is = over d.requests id.0 w (output_of w.request how account) w.observer at
+  granted_over = grind (arith, over)
 
   granted_keeps : (worker : ℕ) (old new : Driving S F) (g g' : Gates) (before after : Deferred S F) (file : ℕ) (granted : Granted) (w : Waiter S F) → request_at old granted.id ≡ Some w → Grants old new g.opens g'.opens before after worker file granted → g'.leaving ≡ with_leaving (permit_by file granted) (key_of worker granted.id) g.leaving → Stand worker old g → Keeps worker new.requests g g'
   granted_keeps worker old new g g' before after file granted w at grants leaving stand =
@@ -179,8 +200,7 @@ module _ {S F : Type 0} where
       subst (λ (h : Gates). Keeps worker new.requests g h) (sym (same_gates g' opens _ gives.opens_after leaving)) (subst (λ (m : Driving S F). Keeps worker m.requests g (record { opens = opens; leaving = with_leaving (permit_by file granted) (key_of worker id) g.leaving })) (sym gives.driver) said)
 
   reaped_over : (d : Driving S F) (id : WaiterId) (w : Waiter S F) (how : Option Ended) (account : Option Account) (file : ℕ) → request_at d id ≡ Some w → permit_after w how ≡ Some file → (request_at (queued_or_ended d id w how account) id ≡ None) × (gate_of w.request ≡ Some file)
-  reaped_over d id w None account file at is = absurd (cc)
-  reaped_over d id w (Some how) account file at is = (over d.requests id.0 w (output_of w.request how account) w.observer at, is)
+  reaped_over = grind (arith, over)
 
   reaped_keeps : (worker : ℕ) (first second new : Driving S F) (g g' : Gates) (before after : Deferred S F) (id : WaiterId) (w : Waiter S F) (given : OpResult) (told : Option Reaped) → new.requests ≡ second.requests → request_at first id ≡ Some w → w.in_flight ≡ true → Reaps first second g.opens g'.opens before after id w given told → g'.leaving ≡ leaving_by worker told g.leaving → Stand worker first g → Keeps worker new.requests g g'
   reaped_keeps worker first second new g g' before after id w given told end at flies reaps leaving stand =
@@ -189,7 +209,7 @@ module _ {S F : Type 0} where
       let account = open_after w given (account_in g.opens (file_of w.request)) in
       let g1 = with_lines g (with_named g.opens (file_of w.request) (keeping account)) in
       let opens = opens_after_end g1.opens w' reaps.answer in
-      let lines = then_lines g g1 (with_lines g opens) (named_lines g (file_of w.request) (keeping account) (λ o. (refl, refl))) (end_lines g1 w' reaps.answer) in
+      let lines = reaped_lines g (file_of w.request) account w' reaps.answer in
       let gate = gate_kept w.request reaps.request reaps.kept in
       let there = (one_changed first.requests id.0 w w' at).is_at in
       let d = landed_at (taken_out first) id w' in
@@ -226,16 +246,9 @@ module _ {S F : Type 0} where
   call_keeps worker old new g g' stand (Admit id request observer now next within never admits leaving) = admitted_keeps worker old new g g' id request observer now next never admits leaving stand
   call_keeps worker old new g g' stand (Join id fits same is) =
       subst (λ (h : Gates). Keeps worker new.requests g h) (sym is) (subst (λ (m : Driving S F). Keeps worker m.requests g (with_lines g (with_named g.opens (gate_in (request_at old id)) (joined (key_of worker id))))) (sym same) (joined_keeps worker old g id (gate_in (request_at old id)) fits refl stand))
-  call_keeps worker old new g g' stand (Observe id is same) = by_driver worker new _ g g' same is stand.hold (taken_fits g worker old.requests id (value_at old.requests id.0) refl stand.all)
-  call_keeps worker old new g g' stand (SetWaker id task is same) = by_driver worker new _ g g' same is stand.hold (waked_fits g worker old.requests id task (value_at old.requests id.0) refl stand.all)
-  call_keeps worker old new g g' stand (Forward id sender is same) = by_driver worker new _ g g' same is stand.hold (forwarded_fits g worker old.requests id sender (value_at old.requests id.0) refl stand.all)
-  call_keeps worker old new g g' stand (Orphan id is same) = by_driver worker new _ g g' same is stand.hold (let_go_fits g worker old id stand.all)
-  call_keeps worker old new g g' stand (Expire id first is same) = by_driver worker new _ g g' same is stand.hold (cancelled_fits g worker (record old { lists = after_due old.lists }) id stand.all)
-  call_keeps worker old new g g' stand (Enrol before after id w deadline now told first at timed enrols same) =
-      by_driver worker new _ g g' same enrols.driver stand.hold (enrolled_fits g worker (record old { lists = after_enrolment old.lists }) id w (tick_for old.wheel deadline now) at stand.all)
   call_keeps worker old new g g' stand (Grant before after file granted w at grants leaving) = granted_keeps worker old new g g' before after file granted w at grants leaving stand
   call_keeps worker old new g g' stand (Stage id w account first at stages same) =
-      by_driver worker new _ g g' same stages.driver stand.hold (becomes g worker old.requests id w _ at (gate_kept w.request stages.request stages.kept) (λ has. has) stand.all)
+      subst (λ (m : Driving S F). Keeps worker m.requests g g') (sym stages.driver) (by_lines worker _ g g' (unmoved g g' same) stand.hold (becomes g worker old.requests id w _ at (gate_kept w.request stages.request stages.kept) (λ has. has) stand.all))
   call_keeps worker old new g g' stand (Land id w given store store' at may lands same) = grind (arith, becomes, gate_moved, by_lines, unmoved)
   call_keeps worker old new g g' stand (Reap before after told reap leaving) = reap_keeps worker old new g g' before after told reap leaving stand
   call_keeps worker old new g g' stand (SetAccount file account same is) =
@@ -246,6 +259,8 @@ module _ {S F : Type 0} where
       subst (λ (h : Gates). Keeps worker new.requests g h) (sym is) (subst (λ (m : Driving S F). Keeps worker m.requests g (passed_on g file)) (sym same) (left_keeps worker old g (key_of worker id) file leaves stand))
   call_keeps worker old new g g' stand (Other is keeps lawful places same) =
       subst (λ (s : Slab (Entry S F)). Keeps worker s g g') (sym is) (by_lines worker _ g g' (unmoved g g' same) stand.hold (room_fits g worker old.requests new.requests.room stand.all))
+  call_keeps worker old new g g' stand other =
+      by_lines worker new.requests g g' (unmoved g g' (gates_same other refl)) stand.hold (mild old (λ w w' rests. rests) worker None (lets_out other) (AllFit g worker) (passes g old worker None (lets_out other)) new g g' other refl refl stand.all).1
 
   -- ALL DRIVERS
 

@@ -1,29 +1,11 @@
 -- Where a request stands: its gate, the line of an open, and one slot that changed.
-use Rattle.std.proofs.Common.{◌≡◌, ◌≢◌, ◌⊎◌, ℕ, zero, suc, ◌+◌, ◌-◌, ◌<◌, ◌≤◌, ◌^◌, ltb, Bool, true, false, cond, List, [], ◌∷◌, ◌++◌, length, set, get_or, slice_get, drop, Option, Some, None, refl, sym, ap, subst, ◌∙◌, inl, inr, arith, length-append, length-set}
-use Rattle.std.specs.List.{Contains}
-use Rattle.std.specs.Prelude.{is_none}
-use Rattle.std.proofs.lemmas.Bool.{cases_lt}
-use Rattle.std.proofs.lemmas.Grind.{get_or-set_at}
-use Rattle.std.proofs.lemmas.List.{get_or_past, get_or_push, get_or_append_left, get_or-set_other}
-use Rattle.std.proofs.lemmas.List.Elements.{Contains-push_cases}
-use Rattle.exec_base.specs.{Slab.{slot_at, value_at, value_in, removed, freed, filled, next_id, generation_of, next_generation}, declared.slab.Slot.{Slot, TheVariants.{Live, Vacant, Retired}}}
-use Rattle.exec_base.proofs.Slots.{same_id, some_of_if}
-use Rattle.exec_request.specs.{Kept.{Kept, kept_of}, Requests.{gate_of, target_of}, declared.{output.RequestOutput.RequestOutput}}
-use Rattle.exec_ring.specs.{Landings.{Moves}, declared.store.Store.Store}
-use Rattle.exec_waiters.proofs.Changes.{at_by, entry_of}
-use Rattle.exec_waiters.specs.Events.{finished_for}
-use Rattle.exec_opens.specs.{Opens.{holder_in, holder_at, open_at, with_open, with_named, joined}, declared.opens.WaiterKey.WaiterKey}
-use Rattle.exec_driver_laws.specs.Sharing.{Gates, IsGiven, StandsIn, StandsAt, key_of, with_lines}
-use Rattle.exec_driver.proofs.Words.{eqb_tells, Slab, written, Id, asked_of, Request, OpResult, Submission, waiter_at, waiter_in, waiter_of, Waiter, Entry, Pending, WaiterId, OpenState, Observer}
-use Rattle.exec_opens.proofs.Lines.{set_there}
+use Rattle.std.proofs.Common.{◌≡◌, ◌≢◌, ◌⊎◌, ℕ, zero, suc, ◌+◌, ◌-◌, ◌<◌, ◌^◌, ltb, Bool, true, false, cond, List, [], ◌∷◌, ◌++◌, length, set, get_or, slice_get, drop, Option, Some, refl, sym, ap, subst, ◌∙◌, inl, inr, arith, length-append, length-set}
+use Rattle.exec_driver_laws.{proofs.Words.{Contains, is_none, cases_lt, get_or-set_at, get_or_past, get_or_push, get_or_append_left, get_or-set_other, Contains-push_cases, slot_at, value_at, value_in, removed, freed, filled, next_id, generation_of, next_generation, Slot, Live, Vacant, Retired, same_id, some_of_if, kept_of, gate_of, RequestOutput, Moves, Store, at_by, entry_of, finished_for, holder_in, holder_at, open_at, with_open, with_named, joined, WaiterKey, eqb_tells, Slab, written, Id, Request, OpResult, Submission, waiter_at, waiter_in, waiter_of, Waiter, Entry, Pending, WaiterId, OpenState, Observer, set_there}, specs.Sharing.{Gates, IsGiven, StandsIn, StandsAt, key_of, with_lines}}
 
 -- THE GATE OF A REQUEST: what its operations leave as it is tells it
 
-gate_same : (r r' : Request) → asked_of r' ≡ asked_of r → target_of r' ≡ target_of r → gate_of r' ≡ gate_of r
-gate_same = grind arith
-
 pub gate_kept : (r r' : Request) → kept_of r' ≡ kept_of r → gate_of r' ≡ gate_of r
-gate_kept r r' kept = gate_same r r' (ap (λ (k : Kept). k.asked) kept) (ap (λ (k : Kept). k.target) kept)
+gate_kept = grind arith
 
 pub gate_moved : (flight : Option Submission) (given : OpResult) (r r' : Request) (st st' : Store) → Moves flight given r r' st st' → gate_of r' ≡ gate_of r
 gate_moved = grind arith
@@ -41,10 +23,11 @@ set_elsewhere (x ∷ opens) (suc file) (suc other) o apart = set_elsewhere opens
 pub open_tells : (opens : List OpenState) (file : ℕ) (change : OpenState → OpenState) (other : ℕ) → (open_at (with_open opens file change) other ≡ open_at opens other) ⊎ ((o : OpenState) × (other ≡ file) × (open_at opens file ≡ Some o) × (open_at (with_open opens file change) other ≡ Some (change o)))
 open_tells = grind (arith, eqb_tells, set_there, set_elsewhere)
 
--- nobody else holds a gate, nobody more stands in a line, and the same are to leave
+-- the same hold gates, stand in lines and are to leave
 pub record SameLines (g g' : Gates) : Type 0 where
   pub holder : (file : ℕ) → holder_at g'.opens file ≡ holder_at g.opens file
   pub stands : (file : ℕ) (key : WaiterKey) → StandsAt g'.opens file key → StandsAt g.opens file key
+  pub stood : (file : ℕ) (key : WaiterKey) → StandsAt g.opens file key → StandsAt g'.opens file key
   pub leaving : (file : ℕ) → g'.leaving file ≡ g.leaving file
 
 pub named_lines : (g : Gates) (file : Option ℕ) (change : OpenState → OpenState) → ((o : OpenState) → ((change o).holder ≡ o.holder) × ((change o).waiting ≡ o.waiting)) → SameLines g (with_lines g (with_named g.opens file change))
@@ -58,6 +41,7 @@ then_lines a b c one other =
     record {
       holder = λ file. other.holder file ∙ one.holder file;
       stands = λ file key stands. one.stands file key (other.stands file key stands);
+      stood = λ file key stood. other.stood file key (one.stood file key stood);
       leaving = λ file. other.leaving file ∙ one.leaving file;
     }
 
@@ -82,17 +66,14 @@ left_stands (x ∷ waiting) k (inl holds) = (0, omega arith, let same : x ≡ k 
 left_stands (x ∷ waiting) k (inr waits) = let within = waits.1 in (suc waits.0, omega (arith, within), waits.2)
 
 pub holder_stands : (o : Option OpenState) (key : WaiterKey) → holder_in o ≡ Some key → StandsIn key o
-holder_stands None key is = absurd (cc)
-holder_stands (Some o) key is = inl is
+holder_stands = grind arith
 
 none_freed : {S F : Type 0} (b : Bool) (h n : ℕ) (w : Waiter S F) → waiter_of (value_in (cond b (Vacant h) Retired) n) ≡ Some w → ⊥
-none_freed true h n w is = cc
-none_freed false h n w is = cc
+none_freed = grind arith
 
 -- a slot that a removal left has given as many ids
 pub past_freed : (T : Type 0) (b : Bool) (g n : ℕ) → ltb (g + 1) (2 ^ 64) ≡ b → n < 2 ^ 64 → n < g + 1 → let slot : Slot T = cond b (Vacant (g + 1)) Retired in n < next_generation slot
-past_freed T true g n is fits past = past
-past_freed T false g n is fits past = fits
+past_freed = grind arith
 
 pub past_filled : {T : Type 0} (slot : Slot T) (n : ℕ) → n < next_generation slot → n < generation_of slot + 1
 past_filled = grind arith
@@ -110,8 +91,7 @@ module _ {S F : Type 0} where
 
   -- whoever has the permit afterwards had it before, with the same gate
   alike : (g : Gates) (key : WaiterKey) (w w' : Waiter S F) → gate_of w'.request ≡ gate_of w.request → (w'.permit ≡ true → w.permit ≡ true) → Fits g key w → Fits g key w'
-  alike g key w w' gate permit fits =
-      record { holds = λ file has is. fits.holds file (permit has) (sym gate ∙ is); lines = λ file stands. gate ∙ fits.lines file stands; stays = fits.stays }
+  alike = grind arith
 
   pub all_over : (g g' : Gates) (worker : ℕ) (s : Slab (Entry S F)) → SameLines g g' → AllFit g worker s → AllFit g' worker s
   all_over g g' worker s same all =
@@ -150,53 +130,33 @@ module _ {S F : Type 0} where
   past_reads : (o o' : Slot (Entry S F)) (n : ℕ) → o ≡ o' → n < next_generation o → n < next_generation o'
   past_reads o o' n same past = subst (λ (x : Slot (Entry S F)). n < next_generation x) same past
 
-  slot_past : (s : Slab (Entry S F)) (i j n : ℕ) (slot : Slot (Entry S F)) → (n < next_generation (slot_at s i) → n < next_generation slot) → n < next_generation (slot_at s j) → n < next_generation (get_or (set s.slots i slot) j (Vacant s.first))
-  slot_past = grind (arith, eqb_tells, past_reads, get_or-set_other, cases_lt, get_or-set_at, length-set, get_or_past)
+  -- one slot is this one afterwards, where there is such a slot
+  abbrev pub OneSlot : Slab (Entry S F) → Slab (Entry S F) → ℕ → Slot (Entry S F) → Type 0
+  OneSlot s s' i slot = (j : ℕ) → (slot_at s' j ≡ slot_at s j) ⊎ ((j ≡ i) × (slot_at s' j ≡ slot))
 
-  slot_fits : (g : Gates) (worker : ℕ) (s s' : Slab (Entry S F)) (i : ℕ) (slot : Slot (Entry S F)) → s'.slots ≡ set s.slots i slot → s'.first ≡ s.first → ((id : WaiterId) (w : Waiter S F) → id.0.index ≡ i → waiter_of (value_in slot id.0.generation) ≡ Some w → Fits g (key_of worker id) w) → ((n : ℕ) → n < 2 ^ 64 → n < next_generation (slot_at s i) → n < next_generation slot) → AllFit g worker s → AllFit g worker s'
-  slot_fits g worker s s' i slot slots first new grows all =
+  pub set_one : (s : Slab (Entry S F)) (slots : List (Slot (Entry S F))) (i : ℕ) (slot : Slot (Entry S F)) → slots ≡ set s.slots i slot → (j : ℕ)
+      → (get_or slots j (Vacant s.first) ≡ get_or s.slots j (Vacant s.first)) ⊎ ((j ≡ i) × (get_or slots j (Vacant s.first) ≡ slot))
+  set_one = grind (arith, eqb_tells, cases_lt, get_or-set_other, get_or-set_at, length-set, get_or_past)
+
+  pub push_one : (s : Slab (Entry S F)) (slot : Slot (Entry S F)) (j : ℕ)
+      → (get_or (s.slots ++ slot ∷ []) j (Vacant s.first) ≡ get_or s.slots j (Vacant s.first)) ⊎ ((j ≡ length s.slots) × (get_or (s.slots ++ slot ∷ []) j (Vacant s.first) ≡ slot))
+  push_one = grind (arith, cases_lt, get_or_append_left, eqb_tells, get_or_push, length-append, get_or_past)
+
+  slot_fits : (g : Gates) (worker : ℕ) (s s' : Slab (Entry S F)) (i : ℕ) (slot : Slot (Entry S F)) → OneSlot s s' i slot → ((id : WaiterId) (w : Waiter S F) → id.0.index ≡ i → waiter_of (value_in slot id.0.generation) ≡ Some w → Fits g (key_of worker id) w) → ((n : ℕ) → n < 2 ^ 64 → n < next_generation (slot_at s i) → n < next_generation slot) → AllFit g worker s → AllFit g worker s'
+  slot_fits g worker s s' i slot one new grows all =
       record {
         fits = λ id w at.
-            let n = id.0.generation in
-            let now = reads _ (get_or (set s.slots i slot) id.0.index (Vacant s.first)) n w (λ k. get_or (slots k) id.0.index (Vacant (first k))) at in
-            elim (eqb_tells id.0.index i) [
-              | inr other ↦ all.fits id w (reads _ _ n w (get_or-set_other s.slots i id.0.index slot (Vacant s.first) other.1) now)
-              | inl same ↦
-                  elim (cases_lt i (length s.slots)) [
-                    | inl within ↦ new id w same.1 (reads _ _ n w (get_or-set_at s.slots i id.0.index slot (Vacant s.first) same.1 within) now)
-                    | inr past ↦
-                        let beyond : length (set s.slots i slot) ≤ id.0.index = rw length-set (omega (arith, past, same.1)) in
-                        absurd (none_past s.first n w (reads _ _ n w (get_or_past (set s.slots i slot) id.0.index (Vacant s.first) beyond) now))
-                  ]
+            elim (one id.0.index) [
+              | inl same ↦ all.fits id w (reads _ _ id.0.generation w same at)
+              | inr here ↦ new id w here.0 (reads _ _ id.0.generation w here.1 at)
             ];
         given = λ id file stands.
             let was = all.given id file stands in
-            record { fits = was.fits; past = past_reads _ _ id.0.generation (λ k. get_or (sym slots k) id.0.index (Vacant (sym first k))) (slot_past s i id.0.index id.0.generation slot (grows id.0.generation was.fits) was.past) };
-      }
-
-  pushed_fits : (g : Gates) (worker : ℕ) (s s' : Slab (Entry S F)) (slot : Slot (Entry S F)) → s'.slots ≡ s.slots ++ slot ∷ [] → s'.first ≡ s.first → ((id : WaiterId) (w : Waiter S F) → id.0.index ≡ length s.slots → waiter_of (value_in slot id.0.generation) ≡ Some w → Fits g (key_of worker id) w) → ((n : ℕ) → n < s.first → n < next_generation slot) → AllFit g worker s → AllFit g worker s'
-  pushed_fits g worker s s' slot slots first new grows all =
-      record {
-        fits = λ id w at.
-            let n = id.0.generation in
-            let now = reads _ (get_or (s.slots ++ slot ∷ []) id.0.index (Vacant s.first)) n w (λ k. get_or (slots k) id.0.index (Vacant (first k))) at in
-            elim (places id.0.index) [
-              | inl same ↦ all.fits id w (reads _ _ n w same now)
-              | inr last ↦ new id w last.0 (reads _ _ n w last.1 now)
+            elim (one id.0.index) [
+              | inl same ↦ record { fits = was.fits; past = past_reads _ _ id.0.generation (sym same) was.past }
+              | inr here ↦ record { fits = was.fits; past = past_reads _ _ id.0.generation (sym here.1) (grows id.0.generation was.fits (subst (λ (k : ℕ). id.0.generation < next_generation (slot_at s k)) here.0 was.past)) }
             ];
-        given = λ id file stands.
-            let was = all.given id file stands in
-            let now : id.0.generation < next_generation (get_or (s.slots ++ slot ∷ []) id.0.index (Vacant s.first)) =
-            elim (places id.0.index) [
-              | inl same ↦ past_reads _ _ id.0.generation (sym same) was.past
-              | inr last ↦ past_reads _ _ id.0.generation (sym last.1) (grows id.0.generation (past_reads _ _ id.0.generation (get_or_past s.slots id.0.index (Vacant s.first) (omega (arith, last.0))) was.past))
-            ] in
-            record { fits = was.fits; past = past_reads _ _ id.0.generation (λ k. get_or (sym slots k) id.0.index (Vacant (sym first k))) now };
       }
-    where
-      -- a slot is as it was, or the new one
-      places : (j : ℕ) → (get_or (s.slots ++ slot ∷ []) j (Vacant s.first) ≡ get_or s.slots j (Vacant s.first)) ⊎ ((j ≡ length s.slots) × (get_or (s.slots ++ slot ∷ []) j (Vacant s.first) ≡ slot))
-      places = grind (arith, cases_lt, get_or_append_left, eqb_tells, get_or_push, length-append, get_or_past)
 
   -- the slot of a request
   live_fits : (g : Gates) (worker : ℕ) (id : WaiterId) (i n : ℕ) (e : Entry S F) → record { index = i; generation = n } ≡ id.0 → ((w : Waiter S F) → waiter_in e ≡ Some w → Fits g (key_of worker id) w) → (other : WaiterId) (w : Waiter S F) → other.0.index ≡ i → waiter_of (value_in (Live n e) other.0.generation) ≡ Some w → Fits g (key_of worker other) w
@@ -207,11 +167,11 @@ module _ {S F : Type 0} where
 
   pub written_fits : (g : Gates) (worker : ℕ) (s : Slab (Entry S F)) (id : WaiterId) (e : Entry S F) → IsLast s id.0 → ((w : Waiter S F) → waiter_in e ≡ Some w → Fits g (key_of worker id) w) → AllFit g worker s → AllFit g worker (written s id.0 e)
   written_fits g worker s id e last fits all =
-      slot_fits g worker s (written s id.0 e) id.0.index (Live id.0.generation e) refl refl (live_fits g worker id id.0.index id.0.generation e refl fits) (λ n within past. last n past) all
+      slot_fits g worker s (written s id.0 e) id.0.index (Live id.0.generation e) (set_one s _ id.0.index (Live id.0.generation e) refl) (live_fits g worker id id.0.index id.0.generation e refl fits) (λ n within past. last n past) all
 
   pub removed_fits : (g : Gates) (worker : ℕ) (s : Slab (Entry S F)) (id : WaiterId) → IsLast s id.0 → AllFit g worker s → AllFit g worker (removed s id.0)
   removed_fits g worker s id last all =
-      slot_fits g worker s (removed s id.0) id.0.index (freed id.0.generation) refl refl
+      slot_fits g worker s (removed s id.0) id.0.index (freed id.0.generation) (set_one s _ id.0.index (freed id.0.generation) refl)
       (λ other w index at. absurd (none_freed (ltb (id.0.generation + 1) (2 ^ 64)) (id.0.generation + 1) other.0.generation w at))
       (λ n within past. past_freed (Entry S F) (ltb (id.0.generation + 1) (2 ^ 64)) id.0.generation n refl within (last n past)) all
 
@@ -223,9 +183,10 @@ module _ {S F : Type 0} where
 
   pub filled_fits : (g : Gates) (worker : ℕ) (s : Slab (Entry S F)) (vacant : List ℕ) (id : WaiterId) (w : Waiter S F) → next_id (record s { vacant = vacant }) ≡ Some id.0 → Fits g (key_of worker id) w → AllFit g worker s → AllFit g worker (filled s vacant (Pending w))
   filled_fits g worker s [] id w next fits all =
-      pushed_fits g worker s _ (Live s.first (Pending w)) refl refl (live_fits g worker id (length s.slots) s.first (Pending w) (pushed_id s id next) (λ v same. subst (Fits g (key_of worker id)) (cc) fits)) (λ n past. omega (arith, past)) all
+      let before = λ (n : ℕ). past_reads (slot_at s (length s.slots)) (Vacant s.first) n (get_or_past s.slots (length s.slots) (Vacant s.first) (omega arith)) in
+      slot_fits g worker s _ (length s.slots) (Live s.first (Pending w)) (push_one s (Live s.first (Pending w))) (live_fits g worker id (length s.slots) s.first (Pending w) (pushed_id s id next) (λ v same. subst (Fits g (key_of worker id)) (cc) fits)) (λ n within past. let was = before n past in omega (arith, was)) all
   filled_fits g worker s (i ∷ rest) id w next fits all =
-      slot_fits g worker s _ i (Live (generation_of (slot_at s i)) (Pending w)) refl refl (live_fits g worker id i (generation_of (slot_at s i)) (Pending w) (some_of_if _ _ _ next) (λ v same. subst (Fits g (key_of worker id)) (cc) fits)) (λ n within past. past_filled (slot_at s i) n past) all
+      slot_fits g worker s _ i (Live (generation_of (slot_at s i)) (Pending w)) (set_one s _ i (Live (generation_of (slot_at s i)) (Pending w)) refl) (live_fits g worker id i (generation_of (slot_at s i)) (Pending w) (some_of_if _ _ _ next) (λ v same. subst (Fits g (key_of worker id)) (cc) fits)) (λ n within past. past_filled (slot_at s i) n past) all
 
   filled_slot : (s : Slab (Entry S F)) (i n : ℕ) (w : Waiter S F) → n < next_generation (get_or (set s.slots i (Live (generation_of (slot_at s i)) (Pending w))) i (Vacant s.first)) → n < generation_of (slot_at s i) + 1
   filled_slot = grind (arith, cases_lt, past_reads, get_or-set_at, length-set, past_filled, get_or_past)

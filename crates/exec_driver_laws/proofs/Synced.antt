@@ -1,22 +1,6 @@
 -- Why the run of a clean sync is one, and what no calls lead to.
-use Rattle.std.proofs.Common.{◌≡◌, ◌≢◌, ℕ, zero, suc, ◌≤◌, ◌<◌, All, true, false, length, Option, Some, None, Ok, Err, refl, sym, ap, subst, ◌∙◌, inl, inr, arith}
-use Rattle.std.specs.Prelude.{IsSomeAnd}
-use Rattle.std.proofs.lemmas.List.Elements.{All-nil}
-use Rattle.exec_base.specs.declared.error.Error.TheVariants.{Timeout}
-use Rattle.exec_outcomes.specs.Accounts.{fresh_account}
-use Rattle.exec_waiters.specs.{Examples.{sync, here}, Told.Tells, declared.waiter.Entry.TheVariants.Ready}
-use Rattle.exec_opens.specs.Opens.{fresh_open, joined, keeping}
-use Rattle.exec_driver.specs.{Driving.{Driving, is_gated}, Examples.{first, idle, with_one}, Placed.Says, Steps.{Grants, GrantsAs, newcomer}, declared.driver.staging.Granted.{Granted}}
-use Rattle.exec_driver.proofs.Words.{Deferred, Waiter, WaiterId, eqb_tells, false≢true, is_among, is_some, request_at, tick_in}
-use Rattle.exec_driver.proofs.Granting.{same_some}
-use Rattle.exec_lists.proofs.Names.{same_tells}
-use Rattle.exec_request.specs.Requests.{gate_of}
-use Rattle.exec_request.specs.declared.output.RequestOutput.TheVariants as output
-use Rattle.exec_driver_laws.specs.{Ends.{TellsNoSuccess, ending_sent}, Examples.{fresh_gates, no_requests, spoiled, workers}, Lines.KeepsLine}
-use Rattle.exec_driver_laws.specs.Runs.{misplaced, back, clean, clean_gates, clean_told, healing, occupied, kept_output, of_worker, ready, reserved, sent, to_leave, two}
-use Rattle.exec_driver_laws.specs.Owning.{operations_in}
-use Rattle.exec_driver_laws.specs.Sharing.{Admit, AreFresh, Call, CallsOne, FailsFrom, Gates, Grant, IsRun, Join, Leave, LineUp, Other, SetAccount, StandsAt, end_by, key_of, lets_out, passed_on, sets_account_of}
-use Rattle.exec_driver_laws.proofs.{Failing.fails_on, Lasting.ends_told, Holding.holds_on, Joining.stands_on, Once.stays_gone, Staying.stays, Workers.says}
+use Rattle.std.proofs.Common.{◌≡◌, ◌≢◌, ℕ, zero, suc, ◌≤◌, ◌<◌, true, false, length, Option, Some, None, Ok, Err, refl, sym, ap, subst, inl, inr, arith}
+use Rattle.exec_driver_laws.{proofs.{Words.{Ready, IsSomeAnd, Timeout, fresh_account, sync, here, Tells, Driving, first, idle, with_one, Says, Grants, GrantsAs, newcomer, Granted, Deferred, Waiter, WaiterId, eqb_tells, is_among, request_at, same_some, same_tells, gate_of, Sync}, Failing.fails_on, Lasting.{ends_told, stays}, Joining.{holds_on, stands_on}, Once.stays_gone, Workers.says}, specs.{Sharing.{lets_out, Admit, AreFresh, Call, CallsOne, FailsFrom, Gates, Grant, IsRun, Join, Leave, LineUp, Other, SetAccount, StandsAt, end_by, key_of, passed_on, sets_account_of}, Ends.TellsNoSuccess, Examples.{fresh_gates, no_requests, spoiled, workers}, Runs.{misplaced, back, clean, clean_gates, clean_told, healing, occupied, kept_output, of_worker, ready, reserved, sent, to_leave, two}, Owning.operations_in}}
 
 one_there : (id : WaiterId) (w : Waiter ℕ ℕ) → request_at (with_one sync 0) id ≡ Some w → newcomer sync here ≡ w
 one_there = grind arith
@@ -28,36 +12,10 @@ one_gated : (id : WaiterId) → is_among id (with_one sync 0).lists.gated ≡ tr
 one_gated = grind (arith, same_tells)
 
 says_one : Says (with_one sync 0)
-says_one =
-    record {
-      permitted = record { flies = λ id w file at flies gate. absurd (false≢true (ap (λ (v : Waiter ℕ ℕ). v.in_flight) (one_there id w at) ∙ flies)) };
-      lists = record {
-        queued = λ id among. absurd (false≢true among);
-        gated = λ id among. subst (λ (i : WaiterId). is_gated (request_at (with_one sync 0) i) ≡ true) (one_gated id among) refl;
-        enrolments = λ id among. absurd (false≢true among);
-        due = λ id among. absurd (false≢true among);
-        cancels = λ id among. absurd (false≢true among);
-        cancelled_once = λ id is. absurd (cc (is));
-      };
-      dated = record { deadline = λ id w at ticks. absurd (false≢true (ap (λ (v : Waiter ℕ ℕ). is_some (tick_in v.state)) (one_there id w at) ∙ ticks)) };
-      lands = tt;
-    }
+says_one = record { permitted = grind (arith, one_there); lists = grind (arith, one_gated); dated = grind (arith, one_there); lands = tt }
 
 says_ready : Says ready
-says_ready =
-    record {
-      permitted = record { flies = λ id w file at flies gate. absurd (none_there id w at) };
-      lists = record {
-        queued = λ id among. absurd (false≢true among);
-        gated = λ id among. absurd (false≢true among);
-        enrolments = λ id among. absurd (false≢true among);
-        due = λ id among. absurd (false≢true among);
-        cancels = λ id among. absurd (false≢true among);
-        cancelled_once = λ id is. absurd (cc (is));
-      };
-      dated = record { deadline = λ id w at ticks. absurd (none_there id w at) };
-      lands = tt;
-    }
+says_ready = record { permitted = grind (arith, none_there); lists = grind arith; dated = grind (arith, none_there); lands = tt }
 
 others_idle : (n m other : ℕ) → other ≢ 3 → of_worker clean m other ≡ of_worker clean n other
 others_idle = grind (arith, eqb_tells)
@@ -100,10 +58,7 @@ calling before after tells (suc (suc (suc (suc n)))) =
     record { worker = 3; call = resting 3 ready (passed_on to_leave 1); says = says_ready; others = λ other apart. others_idle (suc (suc (suc (suc n)))) (suc (suc (suc (suc (suc n))))) other apart }
 
 pub clean_run : (before after : Deferred ℕ ℕ) → Tells before after clean_told → IsRun (of_worker clean) clean_gates
-clean_run before after tells = record { first = fresh_of (of_worker clean 0) all_idle; next = calling before after tells }
-  where
-    all_idle : (worker : ℕ) → of_worker clean 0 worker ≡ idle
-    all_idle = grind (arith, eqb_tells)
+clean_run before after tells = record { first = fresh_of (of_worker clean 0) (grind (arith, eqb_tells)); next = calling before after tells }
 
 pub clean_end : (run : IsRun (of_worker clean) clean_gates) → IsSomeAnd (end_by (run.next 2).call) (λ e. e.0 ≡ key_of 3 first)
 clean_end run = ends_told (of_worker clean) clean_gates run 2 (key_of 3 first) (newcomer sync here) refl refl refl
@@ -158,26 +113,13 @@ fails_until =
 pub not_longer : FailsFrom no_requests healing 1 3 1 Timeout → ⊥
 not_longer fails = let still : None ≡ Some Timeout = fails_on no_requests healing 1 3 1 Timeout fails in cc
 
--- WHAT IS TOLD, AND WHAT KEEPS A LINE
-
-pub told_failed : TellsNoSuccess (sent (Err Timeout)) (kept_output (Err Timeout))
-told_failed = record { let_go = All-nil _; outcomes = All-nil _; sent = failed_one; kept = grind arith }
-  where
-    failed_one : All (λ a. ending_sent a.result ≢ Ok tt) (sent (Err Timeout)).results
-    failed_one zero d within = λ is. cc (is)
-    failed_one (suc k) d within = absurd (omega (arith, within))
+-- WHAT IS TOLD
 
 pub not_sent : TellsNoSuccess (sent (Ok tt)) None → ⊥
-not_sent unwell = unwell.sent 0 (record { id = first; sender = 6; result = Ok (output.Sync (Ok tt)) }) (omega arith) refl
+not_sent unwell = unwell.sent 0 (record { id = first; sender = 6; result = Ok (Sync (Ok tt)) }) (omega arith) refl
 
 pub not_kept : TellsNoSuccess (sent (Err Timeout)) (kept_output (Ok tt)) → ⊥
 not_kept unwell = unwell.kept _ refl refl
-
-pub not_joined : KeepsLine fresh_open (joined (key_of 3 first) fresh_open) → ⊥
-not_joined keeps = let none : Some (key_of 3 first) ≡ None = keeps.holder in cc
-
-pub not_keeping : KeepsLine fresh_open (keeping spoiled fresh_open) → ⊥
-not_keeping keeps = let none : Some Timeout ≡ None = keeps.failure in cc
 
 -- WHO STANDS IN A LINE, AND WHOSE OUTPUT IS KEPT
 
@@ -189,4 +131,4 @@ pub not_dropped : (worker : ℕ) → Call worker (with_one sync 0) (with_one syn
 not_dropped worker call = not_reserved (stands_on worker _ _ occupied reserved call (λ k gate leaves. absurd (cc (leaves))) 1 (key_of 3 first) (λ leaves. cc (leaves)) (inl refl))
 
 pub not_lost : (worker : ℕ) (g g' : Gates) (call : Call worker ready idle g g') → lets_out call ≢ Some first → ⊥
-not_lost worker g g' call other = let none : None ≡ Some (Ready (output.Sync (Ok tt))) = stays worker _ _ g g' call first (output.Sync (Ok tt)) other refl in cc
+not_lost worker g g' call other = let none : None ≡ Some (Ready (Sync (Ok tt))) = stays worker _ _ g g' call first (Sync (Ok tt)) other refl in cc

@@ -1,18 +1,9 @@
--- Why the drivers of the worked example share gates, or don't.
-use Rattle.std.proofs.Common.{◌≡◌, ◌≢◌, ℕ, zero, suc, ◌≤◌, Bool, true, false, eqb, Some, None, refl, sym, ap, arith}
-use Rattle.exec_waiters.specs.{Examples.{sync, here}}
-use Rattle.exec_driver.specs.{Examples.{first, idle}, Placed.Says, Steps.newcomer}
-use Rattle.exec_driver_laws.specs.{Examples.{workers, held, gates, spoiled, spoiling, no_requests, astray}, Serving.{IsCalls, NoCall, NextCall}}
-use Rattle.exec_driver_laws.specs.{Laws.ShareGates, Sharing.{LineUp, CallsOne, SetAccount, Other, IsRun, FailsFrom, sets_account_of, key_of}}
-use Rattle.exec_base.specs.declared.error.Error.TheVariants.{Timeout}
-use Rattle.exec_opens.specs.declared.opens.WaiterKey.{WaiterKey}
-use Rattle.exec_driver.proofs.{Words.{false≢true, Waiter}}
+-- The worked examples: drivers that share gates or do not, what operations end with, and where requests are.
+use Rattle.std.proofs.Common.{◌≡◌, ◌≢◌, ℕ, zero, suc, ◌≤◌, Bool, true, eqb, Some, refl, sym, ap, arith, []}
+use Rattle.exec_driver_laws.{proofs.Words.{sync, here, first, idle, Says, newcomer, Timeout, WaiterKey, false≢true, Waiter, Errno, send_flying, bytes, landed, poll, with_one, no_lists}, specs.{Examples.{workers, held, spoiled, spoiling, no_requests, astray}, Serving.{IsCalls, NoCall, NextCall}, Laws.ShareGates, Sharing.{CallsOne, SetAccount, Other, IsRun, FailsFrom, sets_account_of, key_of}, Lawful.{CompletesLawfully, EndsLawfully}, OwningExamples.{answered, polling}, Waiting.{ArePlaced, AreTimed, AreUnderWay}}}
 
 abbrev alone : Bool → Waiter ℕ ℕ
 alone permit = record (newcomer sync here) { permit = permit }
-
-pub shared : LineUp (workers false) gates
-shared = grind arith
 
 pub not_shared : ShareGates (workers true) held → ⊥
 not_shared share =
@@ -37,11 +28,23 @@ run = record { first = record { count = 2; opens = refl; leaving = λ file. refl
 pub spoils : FailsFrom no_requests spoiling 1 7 1 Timeout
 spoils = record { run = run; since = omega arith; kept = refl; unset = λ k past soon. unset k past }
 
-pub not_yet : FailsFrom no_requests spoiling 0 7 1 Timeout → ⊥
-not_yet fails = let none : None ≡ Some Timeout = fails.kept in cc
-
 pub not_said : Says astray → ⊥
 not_said said = false≢true (said.lists.due first refl)
 
 pub one_call : IsCalls 0 idle idle (spoiling 0) (spoiling 1).opens
 one_call = record { gates = spoiling 1; opens_after = refl; calls = NextCall idle idle (spoiling 0) (spoiling 1) NoCall (SetAccount (Some 1) spoiled refl refl) says }
+
+pub too_long : EndsLawfully send_flying (landed send_flying 7 (bytes 11)) → ⊥
+too_long ends = absurd (false≢true (ends 7 10 refl refl))
+
+pub unlawful : CompletesLawfully (answered (Errno 5000)) → ⊥
+unlawful all = absurd (false≢true (all _ refl refl))
+
+pub forgotten : ArePlaced (record (with_one poll 0) { lists = no_lists }) → ⊥
+forgotten all = absurd (false≢true (all first))
+
+pub unenrolled : AreTimed (record (with_one poll 0) { lists = no_lists }) → ⊥
+unenrolled all = absurd (false≢true (all first))
+
+pub lost : AreUnderWay (polling true []) → ⊥
+lost all = let none : 0 ≡ 1 = all first (record (newcomer poll here) { in_flight = true }) refl refl in absurd (omega (arith, none))

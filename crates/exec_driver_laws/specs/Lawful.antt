@@ -1,12 +1,11 @@
 -- Which results come of the operations of a ring.
-use Rattle.std.specs.Prelude.{◌≡◌, ℕ, Bool, true, not, ◌&&◌, ◌||◌, nat_le, Some, is_some}
-use Rattle.std.specs.List.{list_all}
+use Rattle.std.specs.{Prelude.{◌≡◌, ℕ, Bool, true, not, ◌&&◌, ◌||◌, nat_le, Some, is_some}, List.list_all}
+use Rattle.exec_driver.specs.{Driving.{Driving, request_at}, Steps.{completed_in, swept}}
+use Rattle.exec_driver_laws.specs.Owning.{is_posted_of, is_staged_of}
 use Rattle.exec_outcomes.specs.Lawful.{is_lawful, window_of}
 use Rattle.exec_request.specs.{Requests.{asked_of, cursor_of}, Windows.most_of}
 use Rattle.exec_ring.specs.{Completions.{is_operation, result_in}, Kernels.{is_of, next_completion}, Rings.RingState, declared.completion.{Completion.Completion, Posted.Posted, Submission.Submission}}
 use Rattle.exec_waiters.specs.{Ids.user_data_of, States.named, declared.{waiter.Waiter.Waiter, waiter_id.WaiterId.WaiterId}}
-use Rattle.exec_driver.specs.{Driving.{Driving, request_at}, Steps.{completed_in, swept}}
-use Rattle.exec_driver_laws.specs.Owning.{is_posted_of, is_staged_of}
 
 -- its window is no larger
 abbrev pub asks_within : ℕ → Submission → Bool

@@ -1,16 +1,14 @@
 -- What a worker does to its driver and the opens, one call after the other, and what drivers that share gates go on with.
-use Rattle.std.specs.Prelude.{◌≡◌, ◌≢◌, ◌⊎◌, ℕ, suc, true, ◌^◌, ◌<◌, ◌≤◌, ◌==◌, List, [], replicate, Option, Some, None, if◌then◌else◌}
-use Rattle.std.specs.{List.{Contains}, Option.{option_map}}
+use Rattle.std.specs.{Prelude.{◌≡◌, ◌≢◌, ◌⊎◌, ℕ, suc, true, ◌^◌, ◌<◌, ◌≤◌, ◌==◌, List, [], replicate, Option, Some, None, if◌then◌else◌}, List.Contains, Option.option_map}
 use Rattle.exec_base.specs.{Slab.{Slab, next_id, IsPast}, declared.{error.Error.Error, task_no.TaskNo.TaskNo}}
+use Rattle.exec_driver.specs.{Admission.Admits, Driving.{Driving, request_at}, Placed.Says, Service.permit_by, Steps.{let_go, expired, EnrolsAs, Grants, StagesOne, LandsOne, ReapsNext}, declared.driver.{reaping.Reaped.Reaped, staging.Granted.Granted}}
+use Rattle.exec_driver_laws.specs.{Laws.{ShareGates, failure_at}, Lawful.EndsLawfully, Lines.KeepsLine, Owning.{HasNoOperation, KeepsOperations}, Waiting.KeepsPlaces}
+use Rattle.exec_lists.specs.Lists.{first_of}
+use Rattle.exec_opens.specs.{Opens.{OpenState, fresh_open, open_at, open_named, holder_at, with_open, with_named, with_account, joined, passed}, declared.opens.WaiterKey.WaiterKey}
 use Rattle.exec_outcomes.specs.{Accounts.Account, declared.outcome.OpResult.OpResult}
 use Rattle.exec_request.specs.{Requests.{gate_of, deadline_of}, States.Ended, declared.request.Request.Request}
 use Rattle.exec_ring.specs.{Kernels.may_land, declared.store.Store.Store}
 use Rattle.exec_waiters.specs.{Events.{changed, with_waker, taken, forwarded}, Ids.user_data_of, States.gate_in, declared.{deferred.Deferred.Deferred, observer.Observer.Observer, waiter.{Entry.Entry, Waiter.Waiter}, waiter_id.WaiterId.WaiterId}}
-use Rattle.exec_driver.specs.{Admission.Admits, Driving.{Driving, request_at}, Placed.Says}
-use Rattle.exec_driver.specs.{Service.permit_by, Steps.{let_go, expired, EnrolsAs, Grants, StagesOne, LandsOne, ReapsNext}, declared.driver.{reaping.Reaped.Reaped, staging.Granted.Granted}}
-use Rattle.exec_driver_laws.specs.{Laws.{ShareGates, failure_at}, Lawful.EndsLawfully, Lines.KeepsLine, Owning.{HasNoOperation, KeepsOperations}, Waiting.KeepsPlaces}
-use Rattle.exec_lists.specs.Lists.{first_of}
-use Rattle.exec_opens.specs.{Opens.{OpenState, fresh_open, open_at, open_named, holder_at, with_open, with_named, with_account, joined, passed}, declared.opens.WaiterKey.WaiterKey}
 
 -- it has the permit of an open, or waits for it
 abbrev pub StandsIn : WaiterKey → Option OpenState → Type 0

@@ -29,6 +29,7 @@ pub fn what_a_request_owned_comes_back_with_its_end<S, F>()
 /// for it: a task of the worker has it kept in the entry, who waits elsewhere is sent it, of a detached sync the ending is
 /// sent, and where nobody waits it is let go. So it is by each step that ends a request. A step after which it goes on
 /// leaves no output. Who lets a request go takes none; where that was someone elsewhere, he is sent `Closed`.
+#[tactic(auto, using(crate::proofs::Outputs::at_admission, crate::proofs::Outputs::when_closed, crate::proofs::Outputs::when_let_go))]
 pub fn the_output_of_a_request_has_one_place<S, F>()
     ensures one { (id : WaiterId) (output : RequestOutput) (observer : Observer S F) → places_of (placed_for id output observer) ≡ 1 }
     ensures over { (d : Driving S F) (id : WaiterId) (w : Waiter S F) (how : Ended) (account : Option Account) → request_at d id ≡ Some w → outputs_after (told_by_end id w (Some how) account) (value_at (queued_or_ended d id w (Some how) account).requests id.0) ≡ placed_for id (output_of w.request how account) w.observer }

@@ -7,7 +7,7 @@ ghost use Rattle.exec_outcomes.specs.declared.outcome.OpResult.TheVariants.{Coun
 ghost use Rattle.exec_driver_laws.specs.{Examples.{workers, held, gates, spoiling, no_requests, astray}, Serving.{IsCalls}, Laws.{ShareGates, failure_at}, Sharing.{LineUp, FailsFrom, key_of, end_told}};
 
 /// Gates: workers share one whose holder's request alone was granted the permit, and don't where two were.
-#[tactic(auto, using(crate::proofs::Workers::shared, crate::proofs::Workers::not_shared))]
+#[tactic(auto, using(crate::proofs::Workers::not_shared))]
 pub fn gates()
     ensures shared { LineUp (workers false) gates }
     ensures two_granted { ShareGates (workers true) held → ⊥ }
@@ -15,7 +15,7 @@ pub fn gates()
 
 /// Failures: a call says of an open what is kept of it, or none does; a reap ends a request, or it goes on; and a run in
 /// which an open keeps a failure after the first call.
-#[tactic(auto, using(crate::proofs::Workers::spoils, crate::proofs::Workers::not_yet))]
+#[tactic(auto, using(crate::proofs::Workers::spoils))]
 pub fn failures()
     ensures kept { failure_at (spoiling 1).opens 1 ≡ Some Timeout }
     ensures other { failure_at (spoiling 1).opens 0 ≡ None }
@@ -27,7 +27,7 @@ pub fn failures()
 
 /// Calls of a worker: what each driver says holds of one without requests, and of none that has a request due which isn't
 /// there; and a run's first call is one.
-#[tactic(auto, using(crate::proofs::Workers::says, crate::proofs::Workers::not_said, crate::proofs::Workers::one_call))]
+#[tactic(auto, using(crate::proofs::Workers::not_said, crate::proofs::Workers::one_call))]
 pub fn calls()
     ensures says { Says idle }
     ensures not_said { Says astray → ⊥ }

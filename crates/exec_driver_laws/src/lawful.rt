@@ -18,7 +18,7 @@ pub fn completions_are_taken_in<S, F>()
 /// A send of ten bytes is within a window of ten, and of no smaller one; user data that a ring has nothing of is within any.
 /// It ends lawfully with ten bytes or with an error number, but not with eleven bytes. The entry of a poll is within what
 /// that may ask for. What a poll may end with is a count or an error number, and no error number is 5000.
-#[tactic(auto, using(crate::proofs::Within::polled, crate::proofs::Within::lands, crate::proofs::Within::fails, crate::proofs::Within::too_long, crate::proofs::Within::lawful, crate::proofs::Within::unlawful))]
+#[tactic(auto, using(std::proofs::lemmas::Bool::Decides::eqb_tells, crate::proofs::Workers::too_long, crate::proofs::Workers::unlawful))]
 pub fn results()
     ensures ten { is_within send_flying 7 10 ≡ true }
     ensures nine { is_within send_flying 7 9 ≡ false }

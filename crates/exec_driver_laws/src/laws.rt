@@ -28,7 +28,6 @@ pub fn at_most_one_durable_request_of_an_open_is_in_flight<S, F>()
 /// so is cancelled as it expires, is no write and no sync. What is asked of the driver for that each driver says of itself
 /// (`Driver::lists_requests`, `Driver::has_deadlines`). So at no moment of a run was a write or a sync cancelled, whoever
 /// waits for it; and where one that was there is gone after a call, that was a grant or a reap which says that it ended.
-#[tactic(auto, using(crate::proofs::Promises::goes_on, crate::proofs::Promises::untimed, crate::proofs::Promises::never_due))]
 pub fn unobserved_writes_and_syncs_are_never_cancelled<S, F>()
     ensures goes_on { (d : Driving S F) (id : WaiterId) (w : Waiter S F) → request_at d id ≡ Some w → goes_on_alone w.request ≡ true → let_go d id ≡ without_observer d id }
     ensures untimed { (r : Request) → goes_on_alone r ≡ true → deadline_of r ≡ None }
@@ -42,7 +41,6 @@ pub fn unobserved_writes_and_syncs_are_never_cancelled<S, F>()
 /// of its operations is told as that failure, to whoever waits for it and in the output that is kept. A kept failure
 /// stays the same, whatever calls workers make, until a caller says himself what is kept of the open; and until then no
 /// durable request of the open ends well, nor does the call by which it ends tell so or keep such an output.
-#[tactic(auto, using(crate::proofs::Promises::fails_at_grant, crate::proofs::Promises::fails_over, crate::proofs::Failing::never_well))]
 pub fn no_durable_request_ends_well_after_a_kept_failure<S, F>()
     ensures granted { (r : Request) (account : Account) (error : Error) → is_durable (asked_of r).kind ≡ true → account.failure ≡ Some error → outcome_if_granted r (Some account) ≡ Some (Failure error) }
     ensures over { (r : Request) (account : Account) (error : Error) → is_durable (asked_of r).kind ≡ true → account.failure ≡ Some error → ending_of (output_of r (Ok tt) (Some account)) ≡ Err error }

@@ -14,7 +14,7 @@ ghost use Rattle.exec_driver_laws.specs.{Lawful.EndsLawfully, Owning.{operations
 /// enter or wake goes, or makes and gives up room. What lands within an enter may land, as each driver says (`Says`): so
 /// an operation ends with a result that its window allows. The lists change where a cancel is staged, where deadlines have
 /// come, and with the rooms.
-#[tactic(auto, using(crate::proofs::OwningRing::cancel_keeps, crate::proofs::OwningRing::poll_keeps, crate::proofs::OwningRing::entered_keeps, crate::proofs::OwningRing::wake_keeps, crate::proofs::OwningRing::advance_places, crate::proofs::LawfulRing::cancel_within, crate::proofs::LawfulRing::poll_within, crate::proofs::LawfulRing::enter_within, crate::proofs::LawfulRing::wake_within))]
+#[tactic(auto, using(crate::proofs::OwningRing::cancel_keeps, crate::proofs::OwningRing::poll_keeps, crate::proofs::OwningRing::entered_keeps, crate::proofs::OwningRing::wake_keeps, crate::proofs::OwningRing::advance_places, crate::proofs::OwningRing::cancel_within, crate::proofs::OwningRing::poll_within, crate::proofs::OwningRing::enter_within, crate::proofs::OwningRing::wake_within))]
 pub fn other_calls_leave_operations_and_places<S, F>()
     ensures cancel { (d : Driving S F) (id : WaiterId) → KeepsOperations d.ring (cancel_staged d id).ring }
     ensures poll { (d : Driving S F) → KeepsOperations d.ring (poll_staged d).ring }
@@ -66,7 +66,7 @@ pub fn user_data_of_entries()
 /// Whose operations are: a poll under way owns the one that its ring has; one that has none owns none, and none has two.
 /// The user data of cancels and of the wake poll is that of no operation, and the entry of a wake poll is none whatever its
 /// user data. Who loses an operation, or brings one, doesn't keep them.
-#[tactic(auto, using(crate::proofs::OwningRuns::polls, crate::proofs::OwningRuns::unowned, crate::proofs::OwningRuns::two, crate::proofs::OwningRuns::lost, crate::proofs::OwningRuns::brought))]
+#[tactic(auto, using(std::proofs::lemmas::Bool::Decides::eqb_tells, crate::proofs::OwningRuns::unowned, crate::proofs::OwningRuns::two))]
 pub fn operations()
     ensures owned { IsOwned (polling true (its_entry ∷ [])) }
     ensures one { operations_in (polling true (its_entry ∷ [])).ring (user_data_of first.0) ≡ 1 }

@@ -22,7 +22,7 @@ pub fn no_request_is_forgotten<S, F>()
 /// it, or another than its own. The deadline of that poll is to be enrolled, which isn't so where no list has it. The
 /// operation of one under way is in the ring; where it isn't, nothing will come of it. Who is due is in no such place, as
 /// who is gated or to be enrolled is.
-#[tactic(auto, using(crate::proofs::Places::placed, crate::proofs::Places::unlisted, crate::proofs::Places::forgotten, crate::proofs::Places::timed, crate::proofs::Places::unenrolled, crate::proofs::Places::there, crate::proofs::Places::lost, crate::proofs::Places::queued, crate::proofs::Places::gated, crate::proofs::Places::due, crate::proofs::Places::not_gated, crate::proofs::Places::not_enrolled))]
+#[tactic(auto, using(std::proofs::lemmas::Bool::Decides::eqb_tells, crate::proofs::Workers::forgotten, crate::proofs::Workers::unenrolled, crate::proofs::Workers::lost))]
 pub fn places()
     ensures queued { Waits (with_one poll 0) first (newcomer poll here) }
     ensures gated { Waits (with_one sync 0) first (newcomer sync here) }

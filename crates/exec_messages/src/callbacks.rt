@@ -238,8 +238,9 @@ fn let_go_output(worker: &mut Worker, next: AfterCallbacks) -> Event
     Event::Turn
 }
 
-/// Lets go of what the request owned that ended first, and of the room that it has left in the store. The caller must know that something is to be released, one
-/// thing for each request that has ended, that the first of these is there, and that all of them count as unreleased.
+/// Lets go of what the request owned that ended first, and of the room that it has left in the store. The caller must know
+/// that something is to be released, one thing for each request that has ended, that the first of these is there, and that
+/// all of them count as unreleased.
 fn release_next<B: Drop>(worker: &mut Worker, next: AfterCallbacks, shared: &mut Shared<B>) -> Event
     requires some { 0 < length worker.old.home.deferred.resources.items }
     requires ended { length worker.old.names.ended.items ≡ length worker.old.home.deferred.resources.items }

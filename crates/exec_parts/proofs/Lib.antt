@@ -1,7 +1,6 @@
 pub mod Sights
 pub mod Facts
 pub mod Claims
-pub mod Newborn
 pub mod MailLets
 pub mod MailHeld
 pub mod LeafPowers

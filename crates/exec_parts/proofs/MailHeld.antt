@@ -1,45 +1,26 @@
 -- What a task held that is over is let go, one after another, whatever letters the worker has meanwhile.
-use Rattle.std.proofs.{Common.{◌≡◌, ◌≢◌, ℕ, suc, Option, Some, None, ◌+◌, ◌<◌, ◌≤◌, ◌==◌, true, not, List, [], ◌∷◌, ◌++◌, length, take, drop, get_or, slice_get, slice_set, refl, sym, ap, subst, ◌∙◌, arith, append_assoc, append-nil, le_of_lt, length-append, length-take-le, take_all, drop-cons, if◌then◌else◌}, lemmas.{Bool.Decides.nat_tests, List.{drop_all, take_more, Elements.filter-append}, Option.slice_get_within}}
-use lib.Seq.{drop-append_seam, take-append_seam}
-use Rattle.exec_machine.specs.declared.state.Waiting.{Waiting}
-use Rattle.exec_parts.{specs.{Awaits.{LetsGo, MayLetGo}, Calls.sleeper_in, Ending.{LetsGoAll, LetsGoOf, LetsGoOne, LetsGoOne.{here, elsewhere}, LetsHeld, LetsSleep, LetsWaiting, MayLetGoAll, MayLetSleep, others_of}, MailTakes.RemovesSleeper, declared.parts.{held.Held.Held, letters.Letters.Letters, shared.Shared.Shared, worker.Worker.Worker}}, proofs.Facts.{by_number, not_same, same_Some, set_there}}
+use Rattle.std.{specs.{Vec.with_item, declared.alloc.Global.Global}, proofs.{Common.{Vec, ◌≡◌, ◌≢◌, ℕ, suc, Option, Some, None, ◌+◌, ◌<◌, ◌≤◌, List, [], ◌∷◌, ◌++◌, length, take, drop, get_or, slice_get, slice_set, refl, sym, ap, subst, ◌∙◌, arith, take_all, drop-cons}, lemmas.{Bool.cases_eq, List.take_more, Option.slice_get_within}}}
+use Rattle.exec_parts.{specs.{Words.Waiting, Awaits.{LetsGo, MayLetGo}, Calls.sleeper_in, Ending.{LetsGoAll, LetsGoOf, LetsGoOne, LetsGoOne.{here, elsewhere}, LetsHeld, LetsSleep, LetsWaiting, MayLetGoAll, MayLetSleep, others_of}, MailTakes.RemovesSleeper, declared.parts.{held.Held.Held, letters.Letters.Letters, shared.Shared.Shared, task_slot.TaskSlot.TaskSlot, worker.Worker.Worker}}, proofs.Facts.set_there}
 
 abbrev with_letters : Letters → Worker → Worker
 with_letters l w = record w { letters = l }
 
 module _ {B : Type 0} where
   go_so : (l : Letters) (k : ℕ) (w w' : Worker) (s s' : Shared B) → LetsGo k w w' s s' → LetsGo k (record w { letters = l }) (record w' { letters = l }) s s'
-  go_so l k w w' s s' lets =
-      record {
-        r = lets.r;
-        request = lets.request;
-        lists = lets.lists;
-        driver = lets.driver;
-        tells = lets.tells;
-        punctual = lets.punctual;
-        ended = lets.ended;
-        capacity = lets.capacity;
-        still = lets.still;
-        worker = ap (λ (x : Worker). record x { letters = l }) lets.worker;
-        records = lets.records;
-        kept = lets.kept;
-      }
+  go_so l k w w' s s' lets = grind (arith, lets)
 
   one_so : (l : Letters) (h : Held) (w w' : Worker) (s s' : Shared B) → LetsGoOne h w w' s s' → LetsGoOne h (record w { letters = l }) (record w' { letters = l }) s s'
   one_so l h w w' s s' (here mine lets) = here mine (go_so l h.number w w' s s' lets)
-  one_so l h w w' s s' (elsewhere other same still) = elsewhere other (ap (λ (x : Worker). record x { letters = l }) same) still
+  one_so l h w w' s s' (elsewhere other same still) = elsewhere other (ap (with_letters l) same) still
 
   pub all_so : (l : Letters) (hs : List Held) (w w' : Worker) (s s' : Shared B) → LetsGoAll hs w w' s s' → LetsGoAll hs (record w { letters = l }) (record w' { letters = l }) s s'
   all_so l [] w w' s s' lets = (ap (λ (x : Worker). record x { letters = l }) lets.0, lets.1)
   all_so l (h ∷ hs) w w' s s' lets = (record lets.0 { letters = l }, lets.1, one_so l h w lets.0 s lets.1 lets.2, all_so l hs lets.0 w' lets.1 s' lets.3)
 
-  may_go_so : (l : Letters) (k : ℕ) (w : Worker) (s : Shared B) → MayLetGo k w s → MayLetGo k (record w { letters = l }) s
-  may_go_so l k w s may = record { known = may.known; room = may.room; ending = may.ending }
-
   pub may_so : (l : Letters) (hs : List Held) (w : Worker) (s : Shared B) → MayLetGoAll hs w s → MayLetGoAll hs (record w { letters = l }) s
   may_so l [] w s may = tt
   may_so l (h ∷ hs) w s may = (
-    λ mine. may_go_so l h.number w s (may.0 mine),
+    λ mine. let may = may.0 mine in grind (arith, may),
     λ w' s' one. may_so w'.letters hs (record w' { letters = w.letters }) s' (may.1 (record w' { letters = w.letters }) s' (one_so w.letters h (record w { letters = l }) w' s s' one)),
   )
 
@@ -89,7 +70,8 @@ module _ {B : Type 0} where
     pub may_this : h.worker ≡ w.index → MayLetGo h.number w s
     may_this mine =
         let same = ap (λ (x : Worker). x.index) so.worker in
-        subst (λ (x : Worker). MayLetGo h.number x s) (sym so.worker) (may_go_so w.letters h.number so.v s (both.0 (mine ∙ same)))
+        let may = both.0 (mine ∙ same) in
+        subst (λ (x : Worker). MayLetGo h.number x s) (sym so.worker) (grind (arith, may))
 
     pub let_this : h.worker ≡ w.index → (w2 : Worker) (s2 : Shared B) → LetsGo h.number w w2 s s2 → HeldSoFar hs w0 s0 (at + 1) w2 s2
     let_this mine w2 s2 lets =
@@ -151,61 +133,57 @@ module _ {B : Type 0} where
   tasks_all (h ∷ hs) w w' s s' lets = tasks_all hs lets.0 w' lets.1 s' lets.3 ∙ tasks_one h w lets.0 s lets.1 lets.2
 
   pub sleep_so : (l : Letters) (what : Waiting) (w : Worker) (s : Shared B) → MayLetSleep what w s → MayLetSleep what (record w { letters = l }) s
-  sleep_so l Waiting.Nothing w s may = tt
-  sleep_so l (Waiting.Request r) w s may = tt
-  sleep_so l (Waiting.Timer z) w s may = (may.0, λ it at mine. let m = may.1 it at mine in record { known = m.known; room = m.room })
-  sleep_so l Waiting.Wake w s may = tt
-  sleep_so l Waiting.Woken w s may = tt
-  sleep_so l Waiting.Yielded w s may = tt
+  sleep_so l (Waiting.Timer z) w s may = grind (arith, may)
+  sleep_so l _ w s may = tt
 
   removes_so : (l : Letters) (z : ℕ) (w w' : Worker) (s s' : Shared B) → RemovesSleeper z w w' s s' → RemovesSleeper z (record w { letters = l }) (record w' { letters = l }) s s'
-  removes_so l z w w' s s' lets =
-      record {
-        it = lets.it;
-        sleeper = lets.sleeper;
-        bed = lets.bed;
-        gone = lets.gone;
-        worker = ap (λ (x : Worker). record x { letters = l }) lets.worker;
-        sleepers = lets.sleepers;
-        kept = lets.kept;
-      }
+  removes_so l z w w' s s' lets = grind (arith, lets)
 
   pub waiting_so : (l : Letters) (z : ℕ) (left : Option Held) (w w' : Worker) (s s' : Shared B) → LetsSleep z left w w' s s' → LetsSleep z left (record w { letters = l }) (record w' { letters = l }) s s'
-  waiting_so l z left w w' s s' lets =
-      record {
-        it = lets.it;
-        sleeper = lets.sleeper;
-        here = λ mine. let both = lets.here mine in (removes_so l z w w' s s' both.0, both.1);
-        elsewhere = λ other. let all = lets.elsewhere other in (ap (λ (x : Worker). record x { letters = l }) all.0, all.1, all.2);
-      }
+  waiting_so l z left w w' s s' lets = grind (arith, removes_so l z w w' s s', lets)
 
   -- it waited for no sleeper
   pub no_sleep : (what : Waiting) (left : Option Held) (w : Worker) (s : Shared B) → ((z : ℕ) → sleeper_in what ≡ Some z → ⊥) → left ≡ None → LetsWaiting what left w w s s
-  no_sleep Waiting.Nothing left w s never none = (refl, refl, none)
-  no_sleep (Waiting.Request r) left w s never none = (refl, refl, none)
   no_sleep (Waiting.Timer z) left w s never none = absurd (never z refl)
-  no_sleep Waiting.Wake left w s never none = (refl, refl, none)
-  no_sleep Waiting.Woken left w s never none = (refl, refl, none)
-  no_sleep Waiting.Yielded left w s never none = (refl, refl, none)
+  no_sleep _ left w s never none = (refl, refl, none)
 
 pub timer_waited : (what : Waiting) (z : ℕ) → sleeper_in what ≡ Some z → what ≡ Waiting.Timer z
-timer_waited Waiting.Nothing z is = absurd (cc)
-timer_waited (Waiting.Request r) z is = absurd (cc)
-timer_waited (Waiting.Timer y) z is = ap (λ x. Waiting.Timer x) (same_Some y z is)
-timer_waited Waiting.Wake z is = absurd (cc)
-timer_waited Waiting.Woken z is = absurd (cc)
-timer_waited Waiting.Yielded z is = absurd (cc)
+timer_waited what z is = grind arith
+
+module _ {B : Type 0} where
+  -- the slot gave its list away, that was let go, and then what it waited for
+  pub gone_of : (t : ℕ) (w w2 w3 u : Worker) (s now s' : Shared B) (o o1 : TaskSlot B) (others : Vec Held Global) → slice_get s.tasks.items t ≡ Some o → o1 ≡ record o { held = o1.held }
+      → o1.held.items ≡ [] → others.items ≡ o.held.items
+      → (lets : LetsHeld (record w { letters = record w.letters { requests = others } }) w2 (record s { tasks = with_item s.tasks t o1 }) now)
+      → LetsWaiting o.waiting w3.letters.timer (record lets.v { letters = w.letters }) u now s'
+      → w3.letters.requests.items ≡ w2.letters.requests.items → w3 ≡ record u { letters = w3.letters } → LetsGoOf t w w3 s s'
+  gone_of t w w2 w3 u s now s' o o1 others there emptied none held lets sleeps requests worker =
+      let first : Shared B = record s { tasks = with_item s.tasks t o1 } in
+      let v : Worker = record lets.v { letters = w.letters } in
+      record {
+        slot = o;
+        there = there;
+        slot' = o1;
+        emptied = emptied;
+        none = none;
+        first = first;
+        kept = refl;
+        tasks = refl;
+        v = v;
+        now = now;
+        lets = subst (λ xs. LetsGoAll xs w v first now) held (all_so w.letters others.items (record w { letters = record w.letters { requests = others } }) lets.v first now lets.lets);
+        u = u;
+        sleeps = sleeps;
+        requests = requests ∙ lets.requests ∙ ap (others_of w.index) held;
+        worker = worker;
+      }
 
 -- ITS SLOT then: it holds nothing, and else is as it was
 
 module _ {B : Type 0} where
   tasks_waited : (what : Waiting) (left : Option Held) (w w' : Worker) (s s' : Shared B) → LetsWaiting what left w w' s s' → s'.tasks ≡ s.tasks
-  tasks_waited Waiting.Nothing left w w' s s' lets = ap (λ (x : Shared B). x.tasks) lets.1
-  tasks_waited (Waiting.Request r) left w w' s s' lets = ap (λ (x : Shared B). x.tasks) lets.1
-  tasks_waited (Waiting.Timer z) left w w' s s' lets = by_number lets.it.shown.worker w.index (λ other. ap (λ (x : Shared B). x.tasks) (lets.elsewhere other).1) (λ mine. ap (λ (x : Shared B). x.tasks) (lets.here mine).0.kept)
-  tasks_waited Waiting.Wake left w w' s s' lets = ap (λ (x : Shared B). x.tasks) lets.1
-  tasks_waited Waiting.Woken left w w' s s' lets = ap (λ (x : Shared B). x.tasks) lets.1
-  tasks_waited Waiting.Yielded left w w' s s' lets = ap (λ (x : Shared B). x.tasks) lets.1
+  tasks_waited (Waiting.Timer z) left w w' s s' lets = grind (arith, lets, cases_eq lets.it.shown.worker w.index)
+  tasks_waited _ left w w' s s' lets = ap (λ (x : Shared B). x.tasks) lets.1
 
   module _ (t : ℕ) (w w' : Worker) (s s' : Shared B) (lets : LetsGoOf t w w' s s') where
     pub tasks_gone : s'.tasks.items ≡ slice_set s.tasks.items t lets.slot'

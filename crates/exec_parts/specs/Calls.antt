@@ -1,10 +1,8 @@
 -- What a callback does to a worker and to what all share.
-use Rattle.std.specs.Prelude.{◌≡◌, ℕ, ◌+◌, ◌≤◌, ◌||◌, not, ◌==◌, if◌then◌else◌, true, List, slice_get, slice_set, Option, Some, None, Result, Err}
+use Rattle.std.specs.Prelude.{◌≡◌, ℕ, ◌+◌, ◌≤◌, ◌||◌, not, ◌==◌, if◌then◌else◌, true, List, slice_get, slice_set, Option, Some, None, Result, Err, length}
 use Rattle.exec_base.specs.declared.{error.Error.Error, one_shot.OneShotState.{OneShotState, TheVariants.{Open, Sent as Full, Closed as Shut}}}
 use Rattle.exec_request.specs.declared.output.RequestOutput.{RequestOutput}
-use Rattle.std.specs.Prelude.{length}
-use Rattle.exec_waiters.specs.Told.{HasPlaces}
-use Rattle.exec_waiters.specs.declared.deferred.Deferred.{Deferred}
+use Rattle.exec_waiters.specs.{Told.HasPlaces, declared.deferred.Deferred.Deferred}
 use Rattle.exec_machine.specs.declared.state.{Forwarding.Forwarding, Waiting.Waiting}
 use Rattle.exec_parts.specs.{declared.parts.{mail.Reply.Reply, record.Record.Record, sleeping.SleeperRecord.SleeperRecord}, Serving.changed_at}
 

@@ -1,17 +1,12 @@
 -- A worker that begins, and the making of one for a dedicated task.
 use Rattle.std.specs.Prelude.{◌≡◌, ◌⊎◌, ℕ, ◌+◌, ◌^◌, ◌<◌, ◌≤◌, true, false, [], ◌∷◌, ◌++◌, length, Some, None}
-use Rattle.exec_base.specs.{Spinner.begun, declared.{error.Error.TheVariants.{Closed, NoMemory}, spinner.SpinnerConfig.SpinnerConfig, task_no.TaskNo.TaskNo}}
-use Rattle.exec_base.specs.declared.one_shot.OneShotState.TheVariants as shot
+use Rattle.exec_base.specs.{Spinner.begun, declared.{error.Error.TheVariants.{Closed, NoMemory}, spinner.SpinnerConfig.SpinnerConfig, task_no.TaskNo.TaskNo, one_shot.OneShotState.OneShotState}}
 use Rattle.exec_ring.specs.Stores.{Same}
 use Rattle.exec_waiters.specs.Told.{HasPlaces, is_untold}
 use Rattle.exec_driver.specs.{Punctual.IsPunctual, Steps.IsFresh as IsFreshDriver}
-use Rattle.exec_task.specs.{Phases.runnable_of, declared.{runnable.Runnable.Runnable, task.Phase.TheVariants.Queued}}
-use Rattle.exec_task.specs.declared.body.Said.TheVariants as said
-use Rattle.exec_machine.specs.{declared.{config.Configuration.Configuration, event.Event.Event}, Ranges.{horizon, ring_size}}
-use Rattle.exec_machine.specs.declared.event.Event.TheVariants as event
-use Rattle.exec_machine.specs.declared.state.Waiting.TheVariants as waiting
-use Rattle.exec_moves.specs.declared.place.InPoll.TheVariants as poll
-use Rattle.exec_moves.specs.declared.place.Place.TheVariants as at
+use Rattle.exec_task.specs.{Phases.runnable_of, declared.{runnable.Runnable.Runnable, task.Phase.TheVariants.Queued, body.Said.Said}}
+use Rattle.exec_machine.specs.{declared.{config.Configuration.Configuration, event.Event.Event, state.Waiting.Waiting}, Ranges.{horizon, ring_size}}
+use Rattle.exec_moves.specs.declared.place.{InPoll.InPoll, Place.Place}
 pub use Rattle.exec_parts.specs.Roles.{MayBegin}
 use Rattle.exec_parts.specs.{declared.parts.{nursery.Nursery.Nursery, role.Role.{Role, TheVariants.Dedicated}, seat.Seat.Seat as Chair, shared.Shared.Shared, task_slot.TaskSlot.TaskSlot, worker.Worker.Worker}, Records.{HasNoNames, IsFreshSeat}, View.driver_of, Things.TurnsSlot}
 
@@ -22,14 +17,12 @@ spins_in c = record { budget_us = c.spin.budget; max_budget_us = c.spin.most; qu
 -- worker i at first, which begins at this moment, with the runnable of its root
 abbrev pub begun_worker : Configuration → Role → ℕ → ℕ → Runnable → ℕ → Worker → Worker
 begun_worker c role i root r now w =
-    record {
-      place = at.BeginTurn;
+    record w {
+      place = Place.BeginTurn;
       index = i;
       workers = c.workers;
       role = role;
       root = root;
-      home = w.home;
-      names = w.names;
       moments = record { start = now; sampled = now; before = now; read = 0 };
       root_ready = Some r;
       hand = None;
@@ -43,7 +36,6 @@ begun_worker c role i root r now w =
       processed = 0;
       spinner = begun (spins_in c) c.spin.iterations;
       slept = None;
-      letters = w.letters;
     }
 
 pub record Begins (c : Configuration) (role : Role) (i root : ℕ) (r : Runnable) (now : ℕ) (w : Worker) : Type 0 where
@@ -62,13 +54,12 @@ module _ {B : Type 0} where
   -- the slot of a new task, whose body is to be polled: the root of worker i
   abbrev pub root_slot : TaskNo → ℕ → ℕ → B → TaskSlot B → TaskSlot B
   root_slot number owner i body slot =
-      record {
+      record slot {
         cell = record { number = number; owner = owner; phase = Queued body; cancelled = false };
         body = None;
-        told = Some said.Start;
-        held = slot.held;
-        waiting = waiting.Nothing;
-        output = shot.Open;
+        told = Some Said.Start;
+        waiting = Waiting.Nothing;
+        output = OneShotState.Open;
         fresh = false;
         cleared = false;
         home = Some i;
@@ -112,17 +103,17 @@ module _ {B : Type 0} where
     pub number : TaskNo
     pub middle : Shared B
     pub makes : MakesDedicated body s middle n n' number
-    pub told : TurnsSlot t middle s' (λ slot. record slot { told = Some (said.Spawned number) })
-    pub worker : w' ≡ record w { place = at.Poll t poll.Act }
-    pub event_is : e ≡ event.Dedicated (length s.tasks.items) (length s.seats.items)
+    pub told : TurnsSlot t middle s' (λ slot. record slot { told = Some (Said.Spawned number) })
+    pub worker : w' ≡ record w { place = Place.Poll t InPoll.Act }
+    pub event_is : e ≡ Event.Dedicated (length s.tasks.items) (length s.seats.items)
 
   -- A closed set takes no task.
   pub record DedicatesNone (t : ℕ) (w w' : Worker) (s s' : Shared B) (n n' : Nursery) (e : Event) : Type 0 where
     pub closed : s.set.closed ≡ true
-    pub told : TurnsSlot t s s' (λ slot. record slot { told = Some (said.Refused Closed) })
-    pub worker : w' ≡ record w { place = at.Poll t poll.Act }
+    pub told : TurnsSlot t s s' (λ slot. record slot { told = Some (Said.Refused Closed) })
+    pub worker : w' ≡ record w { place = Place.Poll t InPoll.Act }
     pub nursery : n' ≡ n
-    pub event_is : e ≡ event.Closed
+    pub event_is : e ≡ Event.Closed
 
   abbrev pub DedicatesIf : ℕ → B → Worker → Worker → Shared B → Shared B → Nursery → Nursery → Event → Type 0
   DedicatesIf t body w w' s s' n n' e = Dedicates t body w w' s s' n n' e ⊎ DedicatesNone t w w' s s' n n' e
@@ -131,5 +122,5 @@ module _ {B : Type 0} where
   pub record RefusesDedicated (t : ℕ) (w w' : Worker) (s s' : Shared B) (n n' : Nursery) : Type 0 where
     pub middle : Shared B
     pub nobody : MakesNobody s middle n n'
-    pub told : TurnsSlot t middle s' (λ slot. record slot { told = Some (said.Refused NoMemory) })
+    pub told : TurnsSlot t middle s' (λ slot. record slot { told = Some (Said.Refused NoMemory) })
     pub worker : w' ≡ w

@@ -1,6 +1,5 @@
 -- A task ends: it lets go of all that it holds, the oldest first.
-use Rattle.std.specs.Prelude.{◌≡◌, ◌≢◌, ℕ, ◌<◌, ◌==◌, ◌&&◌, Bool, not, true, false, List, [], ◌∷◌, filter, length, slice_get, slice_set, Option, Some, None, IsSome, IsTrue, Err, if◌then◌else◌}
-use Rattle.std.specs.VecDeque.{deque_capacity}
+use Rattle.std.specs.{Prelude.{◌≡◌, ◌≢◌, ℕ, ◌<◌, ◌==◌, ◌&&◌, Bool, not, true, false, List, [], ◌∷◌, filter, length, slice_get, slice_set, Option, Some, None, IsSome, IsTrue, Err, if◌then◌else◌}, VecDeque.deque_capacity}
 use Rattle.exec_base.specs.{Slab.{Slab, live_count, value_at}, declared.{error.Error.TheVariants.Closed, slab.Id.Id}}
 use Rattle.exec_time.specs.{Notes.HasRoom, Sleepers.{Ends, IsLowest}, declared.timers.{Sleeper.Sleeper as Sleeping, TimerId.TimerId}}
 use Rattle.exec_waiters.specs.{Events.{IsFirstHeld, told_by_close}, States.is_held_at, Told.{HasPlaces, Tells}, declared.waiter_id.WaiterId.WaiterId}

@@ -10,19 +10,13 @@ module _ {B : Type 0} where
   -- what is shared at first, as far as the lists of it don't tell more
   abbrev pub shared_of : Configuration → Shared B → Shared B
   shared_of c s =
-      record {
+      record s {
         config = c;
         clock = 0;
-        seats = s.seats;
-        tasks = s.tasks;
         set = record { shards = replicate (length s.set.shards) []; closed = false; id = 1 };
         global = record { values = []; places = 0; closed = false };
         idle = record { published = replicate 64 false; count = 0 };
-        requests = s.requests;
-        sleepers = s.sleepers;
         opens = replicate c.files fresh_open;
-        store = s.store;
-        listeners = s.listeners;
         barrier_open = false;
         stopped = false;
       }

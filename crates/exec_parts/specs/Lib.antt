@@ -1,3 +1,4 @@
+pub mod Words
 pub mod Spots
 pub mod Scripts
 pub mod Records

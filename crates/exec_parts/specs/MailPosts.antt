@@ -1,16 +1,6 @@
 -- Messages to other workers: that a task waits for what they have, and that nobody holds it any more.
-use Rattle.std.specs.Prelude.{◌≡◌, ℕ, true, false, ◌-◌, ◌<◌, drop, length, take, Ok, Some, slice_get, slice_set}
-use Rattle.exec_base.specs.declared.one_shot.OneShotState.TheVariants.{Open, Sent as Full, Closed as Shut}
-use Rattle.exec_outcomes.specs.declared.outcome.Outcome.{Outcome}
-use Rattle.std.specs.Prelude.{◌≤◌, [], count_by}
-use Rattle.exec_words.specs.{Inbox.{is_wake_root, sent}, declared.mailbox.Mailbox.Mailbox}
-use Rattle.exec_request.specs.declared.output.RequestOutput.{RequestOutput}
-use Rattle.exec_task.specs.declared.body.Said.{Said}
-use Rattle.exec_machine.specs.declared.{event.Event.{Event, TheVariants.{Turn, Got, GotTimer}}, state.{Letter.Letter, MailMessage.TheVariants.{ForwardRequest, ForwardTimer}, RequestPhase.TheVariants.Resolved, Waiting.Waiting}}
-use Rattle.exec_moves.specs.declared.handing.{AfterCancels.AfterCancels, AfterSend.AfterSend}
-use Rattle.exec_moves.specs.declared.place.InPoll.TheVariants as poll
-use Rattle.exec_moves.specs.declared.place.Place.TheVariants as at
-use Rattle.exec_parts.specs.{declared.parts.{letters.Letters.Letters, mail.Subject.Subject, record.Record.Record, seat.Seat.Seat as Chair, shared.Shared.Shared, sleeping.SleeperRecord.SleeperRecord, task_slot.TaskSlot.TaskSlot, worker.Worker.Worker}, Calls.{forwarded_for, sleeper_forwarded}, Polls.{OfSlot, slept_slot, unobserved}, Pooled.{MaySend, Sends}, View.{letters_in}, Things.TurnsSlot}
+use Rattle.std.specs.Prelude.{◌≡◌, ℕ, true, false, ◌-◌, ◌<◌, drop, length, take, Ok, Some, slice_get, slice_set, ◌≤◌, [], count_by}
+use Rattle.exec_parts.specs.{Words.{Open, Full, Shut, Outcome, is_wake_root, Mailbox, RequestOutput, Said, Event, Turn, Got, GotTimer, Letter, ForwardRequest, ForwardTimer, Resolved, Waiting, AfterCancels, AfterSend, poll, at}, declared.parts.{letters.Letters.Letters, mail.Subject.Subject, record.Record.Record, seat.Seat.Seat as Chair, shared.Shared.Shared, sleeping.SleeperRecord.SleeperRecord, task_slot.TaskSlot.TaskSlot, worker.Worker.Worker}, Calls.{forwarded_for, sleeper_forwarded}, Polls.{OfSlot, slept_slot, unobserved}, Pooled.{MaySend, Sends}, View.letters_in, Things.TurnsSlot}
 
 -- an inbox has one wake of the root at most, and a place for that where it has none; a closed one has no message
 pub record IsMailbox (m : Mailbox Subject Subject) : Type 0 where

@@ -1,16 +1,6 @@
 -- What messages of other workers do, and what callbacks send to tasks elsewhere.
 use Rattle.std.specs.{Prelude.{◌≡◌, ℕ, ◌+◌, ◌^◌, ◌<◌, ◌==◌, Bool, true, false, not, [], drop, length, map, slice_get, slice_set, Some, None, if◌then◌else◌, Ok, Err}, VecDeque.deque_capacity}
-use Rattle.exec_base.specs.{Slab.{removed, value_at, written}, OneShot.sent, declared.{error.Error.TheVariants.Closed, task_no.TaskNo.TaskNo}}
-use Rattle.exec_time.specs.{Notes.{Adds, HasRoom}, Sleepers.{completions_of, is_forwarded}, declared.{notes.ForwardedResult.ForwardedResult, timers.{Observer.TheVariants.Forwarded, Sleeper.Sleeper as Sleeping}}}
-use Rattle.exec_waiters.specs.{Events.{forwarded, told_by_forward}, Told.{HasPlaces, Tells}, declared.deferred.Answer.Answer}
-use Rattle.exec_driver.specs.{Placed.ListsRequests, Punctual.IsPunctual}
-use Rattle.exec_words.specs.{Reserved.Reserved, declared.inbox.Message.Message}
-use Rattle.exec_task.specs.{Phases.{is_idle, runnable_of}, declared.runnable.Runnable.Runnable}
-use Rattle.exec_machine.specs.declared.{event.Event.{Event, TheVariants.{Turn, Wake, Apply}}, state.{MailMessage.{MailMessage, TheVariants.{Root, ForwardRequest, ForwardTimer, CancelRequest, CancelTimer}}, Waiting.Waiting}}
-use Rattle.exec_moves.specs.{declared.{handing.{AfterCallbacks.AfterCallbacks, AfterPush.AfterPush, Heard.Heard}, place.Place.Place}, Mail.after_message}
-use Rattle.exec_moves.specs.declared.place.InCallbacks.TheVariants as callback
-use Rattle.exec_moves.specs.declared.place.Place.TheVariants as at
-use Rattle.exec_parts.specs.{declared.parts.{mail.{Reply.Reply, Subject.Subject}, record.Record.Record, shared.Shared.Shared, sleeping.SleeperRecord.SleeperRecord, task_slot.TaskSlot.TaskSlot, worker.Worker.Worker}, Awaits.{LetsGo, MayLetGo}, Calls.{IsUnpaid, KeepsRoom, as_sent, forward_applied, records_paid, sleeper_applied, sleeper_removed, sleeper_sent, sleepers_paid}, Phased.is_complete, Polls.OfSlot, Pooled.{WakesOwnRoot, woken_slot}, Tests.{first_push_of, next_callback_of}, View.{driver_of, message_of, number_heard}, Things.TurnsSlot}
+use Rattle.exec_parts.specs.{Words.{removed, value_at, written, sent, Closed, TaskNo, Adds, HasRoom, completions_of, is_forwarded, ForwardedResult, Forwarded, Sleeping, forwarded, told_by_forward, HasPlaces, Tells, Answer, ListsRequests, IsPunctual, Reserved, Message, is_idle, runnable_of, Runnable, Event, Turn, Wake, Apply, MailMessage, Root, ForwardRequest, ForwardTimer, CancelRequest, CancelTimer, Waiting, AfterCallbacks, AfterPush, Heard, Place, at, callback, after_message}, declared.parts.{mail.{Reply.Reply, Subject.Subject}, record.Record.Record, shared.Shared.Shared, sleeping.SleeperRecord.SleeperRecord, task_slot.TaskSlot.TaskSlot, worker.Worker.Worker}, Awaits.{LetsGo, MayLetGo}, Calls.{IsUnpaid, KeepsRoom, as_sent, forward_applied, records_paid, sleeper_applied, sleeper_removed, sleeper_sent, sleepers_paid}, Phased.is_complete, Polls.OfSlot, Pooled.{WakesOwnRoot, woken_slot}, Tests.{first_push_of, next_callback_of}, View.{driver_of, message_of, number_heard}, Things.TurnsSlot}
 
 -- SLEEPERS: nobody waits for it any more
 

@@ -1,23 +1,6 @@
 -- HOW FAR A WORKER HAS COME: it is open until it closes, which it does once its root is over; and a closing has its order.
 use Rattle.std.specs.Prelude.{◌≡◌, ◌⊎◌, ℕ, ◌+◌, ◌<◌, ◌≤◌, ◌&&◌, Bool, true, false, not, List, [], length, Option, Some, None, slice_get, slice_set}
-use Rattle.exec_task.specs.{TaskSet.{Set, IsFor, shard_at}, declared.{drain.Drain.Drain, task.Phase.Phase}}
-use Rattle.exec_task.specs.declared.task.Phase.TheVariants as cell
-use Rattle.exec_machine.specs.{declared.state.WorkerPhase.WorkerPhase, Tests.{is_open, has_ended}}
-use Rattle.exec_moves.specs.declared.handing.AfterPop.TheVariants as pop
-use Rattle.exec_moves.specs.declared.handing.AfterSend.TheVariants as send
-use Rattle.exec_moves.specs.declared.handing.AfterSignal.TheVariants as signal
-use Rattle.exec_moves.specs.declared.handing.AfterCancels.TheVariants as cancels
-use Rattle.exec_moves.specs.declared.handing.AfterClaim.TheVariants as claim
-use Rattle.exec_moves.specs.declared.handing.AfterPush.TheVariants as push
-use Rattle.exec_moves.specs.declared.handing.AfterKick.TheVariants as kick
-use Rattle.exec_moves.specs.declared.handing.AfterLeave.TheVariants as leave
-use Rattle.exec_moves.specs.declared.handing.{AfterCancels.AfterCancels, AfterClaim.AfterClaim, AfterKick.AfterKick, AfterLeave.AfterLeave, AfterPush.AfterPush, AfterSend.AfterSend, AfterSignal.AfterSignal}
-use Rattle.exec_moves.specs.declared.place.{InClosing.InClosing, Place.Place}
-use Rattle.exec_moves.specs.{Parts.after_visit, Seen.{left_before, left_in_service}}
-use Rattle.exec_moves.specs.declared.place.InClosing.TheVariants as closing
-use Rattle.exec_moves.specs.declared.place.Place.TheVariants as at
-use Rattle.exec_moves.specs.declared.idling.Stay.TheVariants as stay
-use Rattle.exec_parts.specs.declared.parts.{seat.Seat.Seat as Chair, shared.Shared.Shared, task_slot.TaskSlot.TaskSlot}
+use Rattle.exec_parts.specs.{Words.{Set, IsFor, shard_at, Drain, Phase, cell, WorkerPhase, is_open, has_ended, AfterCancels, cancels, AfterClaim, claim, AfterKick, kick, AfterLeave, leave, pop, AfterPush, push, AfterSend, send, AfterSignal, signal, stay, InClosing, closing, Place, at, after_visit, left_before, left_in_service}, declared.parts.{seat.Seat.Seat as Chair, shared.Shared.Shared, task_slot.TaskSlot.TaskSlot}}
 
 abbrev pub closes_after_leave : AfterLeave → Bool
 closes_after_leave (leave.CallBack n) = left_before n
@@ -74,11 +57,9 @@ closing_after_cancels (cancels.Visit drain) = Some (after_visit drain)
 closing_after_cancels _ = None
 
 abbrev pub closing_after_signal : AfterSignal → Option InClosing
-closing_after_signal (signal.Claim b) = None
 closing_after_signal (signal.Send (send.Tell worker)) = Some (closing.TellRoot worker)
 closing_after_signal (signal.Send (send.Cancels b)) = closing_after_cancels b
-closing_after_signal (signal.Send (send.Act t)) = None
-closing_after_signal (signal.Send (send.Pend t)) = None
+closing_after_signal _ = None
 
 abbrev pub closing_in : Place → Option InClosing
 closing_in (at.Closing x) = Some x

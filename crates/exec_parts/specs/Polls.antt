@@ -1,15 +1,6 @@
 -- What the steps of a poll do to the slot of the polled task.
 use Rattle.std.specs.Prelude.{◌≡◌, ℕ, ◌-◌, Bool, true, false, List, [], ◌++◌, length, map, is_some, Option, Some, None, IsSome, option_to_list, slice_get, take, slice_set, if◌then◌else◌}
-use Rattle.exec_base.specs.Slab.{value_at}
-use Rattle.exec_outcomes.specs.declared.outcome.Outcome.{Outcome}
-use Rattle.exec_request.specs.declared.output.RequestOutput.{RequestOutput}
-use Rattle.exec_waiters.specs.{Events.taken, declared.waiter.Entry.TheVariants.Ready}
-use Rattle.exec_driver.specs.{Driving.Driving, Punctual.IsPunctual}
-use Rattle.exec_opens.specs.Opens.{OpenState}
-use Rattle.exec_task.specs.{Phases.{begun, queued_body, pended, woken}, Sight.Sight, declared.{body.{Act.Act, Said.Said}, runnable.{AfterPoll.AfterPoll, Runnable.Runnable}}}
-use Rattle.exec_machine.specs.{declared.{event.Event.{Event, TheVariants.Got}, state.{RequestPhase.TheVariants.Resolved, Waiting.Waiting}}, Tasks.begun_waiting}
-use Rattle.exec_moves.specs.declared.place.{InPoll.InPoll, Place.Place}
-use Rattle.exec_parts.specs.{Records.numbers_held, declared.parts.{mail.Reply.Reply, record.Record.Record, shared.Shared.Shared, task_slot.TaskSlot.TaskSlot, worker.Worker.Worker}, View.{account_seen, driver_of}}
+use Rattle.exec_parts.specs.{Words.{value_at, Outcome, RequestOutput, taken, Ready, Driving, IsPunctual, OpenState, begun, queued_body, pended, woken, Sight, Act, Said, AfterPoll, Runnable, Event, Got, Resolved, Waiting, begun_waiting, InPoll, Place}, Records.numbers_held, declared.parts.{mail.Reply.Reply, record.Record.Record, shared.Shared.Shared, task_slot.TaskSlot.TaskSlot, worker.Worker.Worker}, View.{account_seen, driver_of}}
 
 -- a runnable that comes back goes into the flag
 abbrev pub flag_after : AfterPoll → Option Runnable → Option Runnable

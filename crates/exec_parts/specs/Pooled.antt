@@ -1,26 +1,8 @@
 -- What the steps of several workers make of what they share, and of the worker that takes them.
 use Rattle.std.specs.Prelude.{◌≡◌, ◌⊎◌, ℕ, zero, suc, Bool, true, false, not, ◌+◌, ◌-◌, ◌^◌, ◌<◌, ◌≤◌, ◌&&◌, ◌==◌, ◌∷◌, ◌++◌, MatchBool, List, [], length, min, take, slice_get, is_some, Option, Some, None, if◌then◌else◌}
-use Rattle.exec_driver.specs.Driving.{Driving}
-use Rattle.exec_ring.specs.Kernels.{with_wake}
-use Rattle.exec_words.specs.{Inbox.{is_dropped, opens_batch, sent, spare_places, word_after}, Queue.{Queue, claimed, head_of, newest, overflowed, popped, released, tail_of}, Reserved.extended, Word.asks_signal, declared.{mailbox.Mailbox.Mailbox}}
-use Rattle.exec_task.specs.{Phases.{cleared, is_idle, runnable_of, woken}, TaskSet.{IsFor, inserted, passed, shard_at, Set, TakesNewest}, declared.{body.Said.Said, drain.Drain.Drain, runnable.{AfterPoll.AfterPoll, Runnable.Runnable}}}
-use Rattle.exec_base.specs.declared.{error.Error.Error, task_no.TaskNo.TaskNo}
-use Rattle.exec_machine.specs.{declared.{config.Configuration.Configuration, event.Event.{Event, TheVariants.{Turn, Rouse, Send, Closed, Spawn, Wake}}, state.{MailMessage.{MailMessage, TheVariants.Root}, Rest.Rest, Waiting.Waiting}}, Tests.{is_awake, is_empty}}
-use Rattle.exec_moves.specs.{declared.handing.{AfterLeave.AfterLeave, AfterPop.AfterPop, AfterPush.AfterPush, AfterSend.AfterSend, First.First}, Claim.Claimed as Exchanged, Pick.after_empty_look, Pop.{after_empty_pop, judge_pop}, Parts.{after_visit, first_pop}, Send.after_posting}
-use Rattle.exec_base.specs.declared.one_shot.OneShotState.TheVariants as shot
-use Rattle.exec_task.specs.declared.body.Said.TheVariants as said
-use Rattle.exec_task.specs.declared.task.Phase.TheVariants as cell
-use Rattle.exec_moves.specs.declared.handing.AfterCallbacks.TheVariants as after
-use Rattle.exec_moves.specs.declared.handing.AfterPop.TheVariants as pop
-use Rattle.exec_moves.specs.declared.handing.AfterPush.TheVariants as push
-use Rattle.exec_moves.specs.declared.handing.AfterSend.TheVariants as send
-use Rattle.exec_moves.specs.declared.handing.InPush.TheVariants as pushes
-use Rattle.exec_moves.specs.declared.place.InCallbacks.TheVariants as callback
-use Rattle.exec_moves.specs.declared.place.InClosing.TheVariants as closing
-use Rattle.exec_moves.specs.declared.place.InPoll.TheVariants as poll
-use Rattle.exec_moves.specs.declared.place.Place.TheVariants as at
-use Rattle.exec_parts.specs.declared.claim.Claimed.{Claimed}
-use Rattle.exec_parts.specs.{Records.numbers_held, declared.parts.{mail.{Reply.Reply, Subject.Subject}, seat.Seat.Seat as Chair, shared.Shared.Shared, task_slot.TaskSlot.TaskSlot, worker.Worker.Worker}, Phased.TurnsChair, Tests.{after_spawn_of, first_push_of, leave_of}, View.{body_in, desk_of, mail_of}, Things.TurnsSlot}
+use Rattle.exec_words.specs.Inbox.{sent}
+use Rattle.exec_machine.specs.declared.event.Event.TheVariants.{Closed}
+use Rattle.exec_parts.specs.{Words.{Driving, with_wake, is_dropped, opens_batch, spare_places, word_after, Queue, claimed, head_of, newest, overflowed, popped, released, tail_of, extended, asks_signal, Mailbox, cleared, is_idle, runnable_of, woken, IsFor, inserted, passed, shard_at, Set, TakesNewest, Said, said, Drain, AfterPoll, Runnable, cell, Error, TaskNo, shot, Configuration, Event, Turn, Rouse, Send, Spawn, Wake, MailMessage, Root, Rest, Waiting, is_awake, is_empty, AfterLeave, AfterPop, pop, AfterPush, push, AfterSend, send, First, after, pushes, callback, closing, poll, at, Exchanged, after_empty_look, after_empty_pop, judge_pop, after_visit, first_pop, after_posting}, declared.{claim.Claimed.Claimed, parts.{mail.{Reply.Reply, Subject.Subject}, seat.Seat.Seat as Chair, shared.Shared.Shared, task_slot.TaskSlot.TaskSlot, worker.Worker.Worker}}, Records.numbers_held, Phased.TurnsChair, Tests.{after_spawn_of, first_push_of, leave_of}, View.{body_in, desk_of, mail_of}, Things.TurnsSlot}
 
 -- the chair of the worker of this number has this
 abbrev pub OfChair : {B : Type 0} → ℕ → Shared B → (Chair → Type 0) → Type 0

@@ -1,11 +1,6 @@
 -- Words for the records of requests and for the numbers of a worker.
 use Rattle.std.specs.{Prelude.{◌≡◌, ℕ, ◌+◌, ◌*◌, ◌<◌, ◌≤◌, ◌^◌, Bool, false, List, [], length, map, nat_le, nat_lt, slice_index_or, Option, Some, None, if◌then◌else◌}, Vec.vec_capacity, VecDeque.deque_capacity}
-use Rattle.exec_base.specs.declared.slab.Id.{Id}
-use Rattle.exec_outcomes.specs.declared.outcome.{Kind.TheVariants.Direct, Outcome.Outcome}
-use Rattle.exec_words.specs.{Inbox.without_mail, Reserved.Reserved, declared.{inbox.Message.Message, word.WaitTarget.WaitTarget}}
-use Rattle.exec_request.specs.{Requests.{asked_of, deadline_of, target_of}, declared.{request.Request.Request as Asking, way.Way.Way}}
-use Rattle.exec_machine.specs.{World.no_operation, declared.state.{Operation.Operation, RequestPhase.{RequestPhase, TheVariants.Resolved}, Rest.Rest, WorkerPhase.WorkerPhase}}
-use Rattle.exec_parts.specs.declared.parts.{held.Held.Held, mail.Subject.Subject, names.Names.Names, seat.Seat.Seat}
+use Rattle.exec_parts.specs.{Words.{Id, Direct, Outcome, without_mail, Reserved, Message, WaitTarget, asked_of, deadline_of, target_of, Asking, Way, no_operation, Operation, RequestPhase, Resolved, Rest, WorkerPhase}, declared.parts.{held.Held.Held, mail.Subject.Subject, names.Names.Names, seat.Seat.Seat}}
 
 -- how it ended, where it is over
 abbrev pub outcome_in : RequestPhase → Option Outcome

@@ -1,8 +1,6 @@
 -- Which work a worker runs, and what it needs to begin.
 use Rattle.std.specs.Prelude.{◌^◌, ◌≤◌, Bool, true, false, ◌==◌}
-use Rattle.exec_base.specs.declared.limits.TheConstants.{LONGEST_TIMEOUT}
-use Rattle.exec_machine.specs.{declared.config.Configuration.Configuration, Ranges.ticks_needed}
-use Rattle.exec_parts.specs.declared.parts.role.Role.{Role, TheVariants.{Pool, Dedicated}}
+use Rattle.exec_parts.specs.{Words.{LONGEST_TIMEOUT, Configuration, ticks_needed}, declared.parts.role.Role.{Role, TheVariants.{Pool, Dedicated}}}
 
 abbrev pub is_pool : Role → Bool
 is_pool (Pool n) = true

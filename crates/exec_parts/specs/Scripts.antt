@@ -1,11 +1,7 @@
 -- A body that does what its script says.
 use Rattle.std.specs.Prelude.{◌≡◌, ℕ, zero, suc, ◌-◌, ◌^◌, ◌<◌, ◌≤◌, Bool, true, false, List, [], ◌∷◌, ◌++◌, length, map, slice_get, Option, Some, None, if◌then◌else◌}
-use Rattle.exec_base.specs.declared.{error.Error.TheVariants.{Closed, NoMemory}, limits.TheConstants.LAST_MOMENT}
-use Rattle.exec_outcomes.specs.Accounts.{is_durable}
-use Rattle.exec_request.specs.{Requests.{asked_of, target_of}, declared.{buffers.WriteBuffers.{WriteBuffers, TheVariants.Single}, read_at.TheConstants.DIRECT_CHUNK, request.Request.Request}}
-use Rattle.exec_task.specs.{Sight.Sight, declared.body.{Act.Act, Said.Said}}
-use Rattle.exec_machine.specs.{declared.{config.{Configuration.Configuration, ScriptWord.ScriptWord}, state.{Code.{Code, TheVariants.{Root, Script, Waits}}, Operation.Operation}}, Progress.Plan, Requests.operation_asked, Tasks.without_newest, World.{Task, Common, open_of}, Words.{next_word, moved_on}}
-use Rattle.exec_parts.specs.{Records.seen_in, Spots.{Spot, IsAskedFor, spot_of}}
+use Rattle.exec_machine.specs.declared.state.Code.TheVariants.{Root}
+use Rattle.exec_parts.specs.{Words.{Closed, NoMemory, LAST_MOMENT, is_durable, asked_of, target_of, WriteBuffers, Single, DIRECT_CHUNK, Request, Sight, Act, Said, Configuration, ScriptWord, Code, Script, Waits, Operation, Plan, operation_asked, without_newest, Task, Common, open_of, next_word, moved_on}, Records.seen_in, Spots.{Spot, IsAskedFor, spot_of}}
 
 -- WHAT A BODY MAY DO. It makes requests, waits for them, lets go of them, sleeps, makes and wakes others, and ends. Any task
 -- may do so; the root of a worker of the pool but the first only waits for the stop.
@@ -22,9 +18,7 @@ IsPlainRequest (Request.Send r) = IsOnePart r.write
 IsPlainRequest (Request.Recv r) = r.len - r.start < 2 ^ 32
 IsPlainRequest (Request.ReadAt r) = length r.buf.bytes ≤ DIRECT_CHUNK
 IsPlainRequest (Request.WriteAt r) = IsOnePart r.write
-IsPlainRequest (Request.Sync r) = Unit {0}
-IsPlainRequest (Request.Connect r) = Unit {0}
-IsPlainRequest (Request.Poll r) = Unit {0}
+IsPlainRequest _ = Unit {0}
 
 module _ {B : Type 0} where
   -- The act is that of the word, by the worker's moment, for a task that holds these requests.

@@ -1,13 +1,6 @@
 -- What an enter does to a worker and to the records of its requests.
 use Rattle.std.specs.{Prelude.{◌≡◌, ℕ, ◌+◌, ◌-◌, ◌*◌, ◌/◌, ◌^◌, ◌<◌, ◌≤◌, ◌==◌, ◌&&◌, ◌||◌, Bool, true, false, not, List, [], ◌∷◌, length, slice_get, slice_set, Option, Some, None, if◌then◌else◌}, List.list_any, Vec.vec_capacity}
-use Rattle.exec_base.specs.declared.error.Error.{Error}
-use Rattle.exec_outcomes.specs.declared.outcome.Outcome.{Outcome, TheVariants.Failure}
-use Rattle.exec_request.specs.declared.window.Opcode.{Opcode}
-use Rattle.exec_ring.specs.{Kernels.entered, declared.completion.Submission.Submission}
-use Rattle.exec_driver.specs.Driving.{has_pending}
-use Rattle.exec_machine.specs.{declared.event.Event.{Event, TheVariants.{Enter, Busy}}, Requests.flown}
-use Rattle.exec_moves.specs.declared.place.{Service.Service, InService.InService, Reaping.Reaping, Place.Place}
-use Rattle.exec_parts.specs.{declared.parts.{record.Record.Record, shared.Shared.Shared, worker.Worker.Worker}, Tests.{has_open_requests, is_anything_told}, View.driver_of}
+use Rattle.exec_parts.specs.{Words.{Error, Outcome, Failure, Opcode, entered, Submission, has_pending, Event, Enter, Busy, flown, Service, InService, Reaping, Place}, declared.parts.{record.Record.Record, shared.Shared.Shared, worker.Worker.Worker}, Tests.{has_open_requests, is_anything_told}, View.driver_of}
 
 -- each number is of a record
 abbrev pub AreKnown : List ℕ → List Record → Type 0

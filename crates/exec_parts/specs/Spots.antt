@@ -1,9 +1,6 @@
 -- Where the body of a task stands in its script, and what it asks for there.
 use Rattle.std.specs.Prelude.{◌≡◌, ℕ, Bool, true, false, List, [], Option, None}
-use Rattle.exec_outcomes.specs.declared.outcome.Kind.{Kind, TheVariants.{Hint, Direct}}
-use Rattle.exec_request.specs.{Requests.{asked_of, cursor_of, deadline_of, target_of}, declared.request.Request.Request}
-use Rattle.exec_machine.specs.{declared.state.{Code.Code, Operation.Operation}, World.{Task, Adapter, AdapterCall}, Requests.asked_of as asked_in}
-use Rattle.exec_parts.specs.Records.{offset_in}
+use Rattle.exec_parts.specs.{Words.{Kind, Hint, Direct, asked_of, cursor_of, deadline_of, target_of, Request, Code, Operation, Task, Adapter, AdapterCall, asked_in}, Records.offset_in}
 
 -- which script, the number of the next word, and what it keeps between words
 pub record Spot : Type 0 where

@@ -1,37 +1,6 @@
 -- What a worker finds out by what it alone touches, and where it goes on by that.
 use Rattle.std.specs.Prelude.{◌≡◌, ℕ, Bool, true, false, not, ◌==◌, ◌&&◌, ◌||◌, ◌-◌, ◌*◌, ◌<◌, ◌≤◌, nat_lt, nat_le, Option, Some, None, if◌then◌else◌}
-use Rattle.exec_base.specs.{Slab.Slab, declared.slab.Id.Id}
-use Rattle.exec_time.specs.{Sleepers.{IsEmpty, IsFirst}, Wheel.{least_active, next_moment}, declared.timers.Sleeper.Sleeper as Sleeping}
-use Rattle.exec_waiters.specs.{States.pending_count, Told.is_untold}
-use Rattle.exec_driver.specs.{Driving.{Driving, has_pending, is_full}, Punctual.{IsFirstTick, IsPunctual}, Steps.poll_staged}
-use Rattle.exec_lists.specs.Lists.{has_first}
-use Rattle.exec_machine.specs.{declared.config.Configuration.Configuration, declared.event.Event.{Event, TheVariants.{Enter, Sleep}}, Deadlines.earlier}
-use Rattle.exec_moves.specs.{declared.handing.{AfterCallbacks.AfterCallbacks, AfterKick.AfterKick, AfterLeave.AfterLeave, AfterPush.AfterPush, AfterSignal.AfterSignal}, declared.idling.{AfterWait.AfterWait, Stay.Stay}, declared.place.{Place.Place, Round.Round}, Callback.serve, Look.past_own, Parts.after_send}
-use Rattle.exec_moves.specs.declared.handing.AfterCallbacks.TheVariants as after
-use Rattle.exec_moves.specs.declared.handing.AfterClaim.TheVariants as claim
-use Rattle.exec_moves.specs.declared.handing.AfterKick.TheVariants as kick
-use Rattle.exec_moves.specs.declared.handing.AfterLeave.TheVariants as leave
-use Rattle.exec_moves.specs.declared.handing.AfterPush.TheVariants as push
-use Rattle.exec_moves.specs.declared.handing.AfterSignal.TheVariants as signal
-use Rattle.exec_moves.specs.declared.handing.InGlobal.TheVariants as global
-use Rattle.exec_moves.specs.declared.handing.InKick.TheVariants as kicks
-use Rattle.exec_moves.specs.declared.handing.InPush.TheVariants as pushes
-use Rattle.exec_moves.specs.declared.idling.InLook.TheVariants as look
-use Rattle.exec_moves.specs.declared.idling.InScan.TheVariants as scan
-use Rattle.exec_moves.specs.declared.idling.InSearch.TheVariants as search
-use Rattle.exec_moves.specs.declared.place.InPick.TheVariants as pick
-use Rattle.exec_moves.specs.declared.place.InPoll.TheVariants as poll
-use Rattle.exec_moves.specs.declared.place.AfterService.TheVariants as back
-use Rattle.exec_moves.specs.declared.place.InCallbacks.TheVariants as callback
-use Rattle.exec_moves.specs.declared.place.InClosing.TheVariants as closing
-use Rattle.exec_moves.specs.declared.place.InLoads.TheVariants as load
-use Rattle.exec_moves.specs.declared.place.Round.TheVariants as round
-use Rattle.exec_moves.specs.declared.idling.AfterWait.TheVariants as next
-use Rattle.exec_moves.specs.declared.idling.InRingWait.TheVariants as ring
-use Rattle.exec_moves.specs.declared.idling.InWordWait.TheVariants as word
-use Rattle.exec_moves.specs.declared.idling.Stay.TheVariants as stay
-use Rattle.exec_moves.specs.declared.place.Place.TheVariants as at
-use Rattle.exec_parts.specs.{declared.parts.{mail.Reply.Reply, worker.Worker.Worker}, Roles.is_pool, View.{desk_of, driver_of}}
+use Rattle.exec_parts.specs.{Words.{Slab, Id, IsEmpty, IsFirst, least_active, next_moment, Sleeping, pending_count, is_untold, Driving, has_pending, is_full, IsFirstTick, IsPunctual, poll_staged, has_first, Configuration, Event, Enter, Sleep, earlier, AfterCallbacks, after, AfterKick, kick, AfterLeave, leave, AfterPush, push, AfterSignal, signal, claim, global, kicks, pushes, AfterWait, next, Stay, stay, look, scan, search, ring, word, Place, at, Round, round, pick, poll, back, callback, closing, load, serve, past_own, after_send}, declared.parts.{mail.Reply.Reply, worker.Worker.Worker}, Roles.is_pool, View.{desk_of, driver_of}}
 
 -- something waits for the callbacks
 abbrev pub is_anything_told : Worker → Bool

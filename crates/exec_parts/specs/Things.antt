@@ -1,9 +1,6 @@
 -- What a step of a place does: it is its move; what else of the worker stays; and what becomes of the one thing that it names.
 use Rattle.std.specs.Prelude.{◌≡◌, ℕ, Some, slice_get, slice_set}
-use Rattle.exec_words.specs.declared.word.PureWord.{PureWord}
-use Rattle.exec_machine.specs.declared.event.Event.{Event}
-use Rattle.exec_moves.specs.State.{Moved}
-use Rattle.exec_parts.specs.{declared.parts.{seat.Seat.Seat as Chair, shared.Shared.Shared, task_slot.TaskSlot.TaskSlot, worker.Worker.Worker}, View.desk_of}
+use Rattle.exec_parts.specs.{Words.{PureWord, Event, Moved}, declared.parts.{seat.Seat.Seat as Chair, shared.Shared.Shared, task_slot.TaskSlot.TaskSlot, worker.Worker.Worker}, View.desk_of}
 
 -- A step is this move: its event, and what stands on the worker's desk then.
 pub record Makes {T : Type 0} (m : Moved T) (e : Event) (w : Worker) : Type 0 where

@@ -1,28 +1,8 @@
 -- What a worker, and what all share, shows: of the abstract machine, and of what stands beside it.
 use Rattle.std.specs.{Prelude.{ℕ, zero, suc, Bool, false, not, ◌-◌, ◌==◌, ◌&&◌, ◌||◌, if◌then◌else◌, List, [], ◌∷◌, drop, length, map, filter, slice_get, slice_index_or, slice_set, ◌++◌, is_some, Option, Some, None, option_to_list}, Option.option_map}
-use Rattle.exec_base.specs.{Slab.{Slab, is_live}, declared.slab.Slot.Slot}
-use Rattle.exec_base.specs.declared.slab.Slot.TheVariants as slot
-use Rattle.exec_outcomes.specs.Accounts.{Account, fresh_account, is_durable}
-use Rattle.exec_ring.specs.{Completions.is_wake, Rings.{RingState, completions}, declared.completion.Completion.Completion}
-use Rattle.exec_time.specs.declared.notes.ForwardedResult.{ForwardedResult}
-use Rattle.exec_waiters.specs.{Events.waker_in, Ids.index_in, States.flying_count, declared.{deferred.Answer.Answer, waiter.Entry.Entry, waiter_id.WaiterId.WaiterId}}
-use Rattle.exec_waiters.specs.declared.waiter.Entry.TheVariants as entry
-use Rattle.exec_driver.specs.{Driving.{Driving, seen}, Steps.is_control}
-use Rattle.exec_opens.specs.{Opens.OpenState, declared.opens.WaiterKey.WaiterKey}
-use Rattle.exec_words.specs.{declared.{inbox.Message.Message as Letter, word.PureWord.PureWord}, Queue.Queue}
-use Rattle.exec_words.specs.declared.inbox.Message.TheVariants as letter
-use Rattle.exec_task.specs.declared.{body.Said.Said, runnable.Runnable.Runnable, task.Phase.Phase}
-use Rattle.exec_task.specs.declared.task.Phase.TheVariants as cell
-use Rattle.exec_machine.specs.{declared.state.{Call.Call, Letter.Letter as Owed, MailMessage.MailMessage, TaskPhase.TaskPhase}, World.{Own, Seat, Task, Open, Common}, Tests.is_resolved, Closing.letters_to_roots, Progress.Plan}
-use Rattle.exec_machine.specs.declared.state.MailMessage.TheVariants as message
-use Rattle.exec_machine.specs.declared.state.TaskPhase.TheVariants as task
-use Rattle.exec_moves.specs.{Slots.Slots, State.{Desk, Things, WakePoll, raised}, Seen.{polls_at, next_at, serves_at}, declared.{handing.Heard.Heard, place.Place.Place}}
-use Rattle.exec_moves.specs.declared.handing.AfterSend.TheVariants as send
-use Rattle.exec_moves.specs.declared.handing.AfterSignal.TheVariants as signal
-use Rattle.exec_moves.specs.declared.place.InClosing.TheVariants as closing
-use Rattle.exec_moves.specs.declared.place.Place.TheVariants as at
-use Rattle.exec_parts.specs.{declared.parts.{held.Held.Held, letters.Letters.Letters, mail.{Subject.Subject, Reply.Reply}, record.Record.Record, seat.Seat.Seat as Chair, shared.Shared.Shared, task_slot.TaskSlot.TaskSlot, worker.Worker.Worker}, Records.{number_in, numbers_held}, Spots.{Spot, no_spot}}
-use Rattle.exec_parts.specs.declared.parts.mail.Subject.TheVariants as subject
+use Rattle.exec_words.specs.declared.inbox.Message.{Message as Letter}
+use Rattle.exec_machine.specs.World.{Open}
+use Rattle.exec_parts.specs.{Words.{Slab, is_live, Slot, slot, Account, fresh_account, is_durable, is_wake, RingState, completions, Completion, ForwardedResult, waker_in, index_in, flying_count, Answer, Entry, entry, WaiterId, Driving, seen, is_control, OpenState, WaiterKey, letter, PureWord, Queue, Said, Runnable, Phase, cell, Call, Owed, MailMessage, message, TaskPhase, task, Own, Seat, Task, Common, is_resolved, letters_to_roots, Plan, Slots, Desk, Things, WakePoll, raised, polls_at, next_at, serves_at, Heard, send, signal, Place, at, closing}, declared.parts.{held.Held.Held, letters.Letters.Letters, mail.{Subject.{Subject, Subject as subject}, Reply.Reply}, record.Record.Record, seat.Seat.Seat as Chair, shared.Shared.Shared, task_slot.TaskSlot.TaskSlot, worker.Worker.Worker}, Records.{number_in, numbers_held}, Spots.{Spot, no_spot}}
 
 -- NUMBERS
 

@@ -11,8 +11,7 @@ pub trait Scripted: Body {
     ghost use Rattle.std.specs.Prelude.{ℕ, List, Option};
     ghost use Rattle.exec_task.specs.declared.body.Said.{Said};
     ghost use Rattle.exec_machine.specs.Progress.{Plan};
-    ghost use Rattle.exec_parts.specs.Spots.{Spot};
-    ghost use Rattle.exec_parts.specs.Scripts.{IsAnswered, IsNamed, Plays};
+    ghost use Rattle.exec_parts.specs.{Spots.Spot, Scripts.{IsAnswered, IsNamed, Plays}};
 
     // It runs the script of a task of this plan: of the root of this worker, or of an ordinary task.
     ghost runs: { Self.Left → Plan → Option ℕ → Type 0 };

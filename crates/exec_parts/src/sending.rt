@@ -121,9 +121,8 @@ impl Worker {
         ensures removes { RemovesSleeper timer self.old self.new shared.old shared.new }
     {
         let record = &mut shared.sleepers[timer];
-        self.home
-            .timers
-            .cancel(record.id, &mut self.home.deferred.notes);
+        let home = &mut self.home;
+        home.timers.cancel(record.id, &mut home.deferred.notes);
         record.remove();
     }
 }

@@ -1,9 +1,9 @@
 //! Where the parts of a turn lead, and how those begin to which others lead: places, by what a worker has and by what it
 //! just did. Who takes a step at such a place is the crate of its group.
 
-ghost use Rattle.std.specs.Prelude.{◌≡◌, ◌<◌, ◌-◌, ◌^◌, ◌||◌, false, if◌then◌else◌, true, None, Option, ℕ};
+ghost use Rattle.std.specs.Prelude.{◌≡◌, ◌<◌, ◌-◌, ◌^◌, ◌||◌, false, true, Option, ℕ};
 ghost use Rattle.exec_moves.specs.{Callback.serve as place_of_service, Parts.{after_visit, first_pop as place_of_pop, cancels_left, next_pick as place_of_pick, after_send as place_after_send, tells_from}, Claim.claimed, Load.has_mail};
-ghost use Rattle.exec_parts.specs.{Tests.{after_callbacks_of, next_callback_of, after_leave_of, after_return_of, leave_of, has_put_off, leaves_turn_of, next_turn_of, after_waiting_of, place_withdrawn, first_push_of, ring_wait_of, HasToldDue, IsNextMoment, is_within, word_wait_of}, Roles.is_pool, View.{desk_of, letters_in}};
+ghost use Rattle.exec_parts.specs.{Tests.{first_load_of, after_callbacks_of, next_callback_of, after_leave_of, after_return_of, leave_of, has_put_off, leaves_turn_of, next_turn_of, after_waiting_of, place_withdrawn, first_push_of, ring_wait_of, HasToldDue, IsNextMoment, is_within, word_wait_of}, View.{desk_of, letters_in}};
 ghost use Rattle.exec_machine.specs.declared.config.Configuration.{Configuration};
 
 use crate::parts::worker::Worker;
@@ -36,8 +36,8 @@ impl Worker {
         ensures { result ≡ after_callbacks_of next self.now }
     {
         match next {
-            AfterCallbacks::Look => Place::Loads(self.first_load(), Round::First),
-            AfterCallbacks::Test => Place::Loads(self.first_load(), Round::Second),
+            AfterCallbacks::Look => self.first_load(Round::First),
+            AfterCallbacks::Test => self.first_load(Round::Second),
             AfterCallbacks::Begin => Place::BeginTurn,
             AfterCallbacks::Drain => serve(AfterService::Finish),
             AfterCallbacks::Finish if self.has_requests() => self.ring_wait(Stay::Closing),
@@ -78,17 +78,15 @@ impl Worker {
         }
     }
 
-    /// The first of the loads. A dedicated worker has no queues to look at.
-    pub(crate) fn first_load(&self) -> InLoads
-        ensures { result ≡ (if is_pool self.now.role then InLoads.LoadOwnHead
-            else InLoads.LoadOwnWord (record { ready = false })) }
+    // The first of the loads. A dedicated worker has no queues to look at.
+    fn first_load(&self, round: Round) -> Place
+        ensures { result ≡ first_load_of round self.now }
     {
         if self.role.is_pool() {
-            InLoads::LoadOwnHead
+            Place::Loads(InLoads::LoadOwnHead, round)
         } else {
-            InLoads::LoadOwnWord {
-                found: Found { ready: false },
-            }
+            let found = Found { ready: false };
+            Place::Loads(InLoads::LoadOwnWord { found }, round)
         }
     }
 
@@ -235,12 +233,9 @@ impl Worker {
         ensures near { (moment : Option ℕ) × IsNextMoment self.old moment × (result ≡ is_within longest_spin self.old.moments.read moment) }
         ensures same { self.new ≡ self.old }
     {
-        match self.next_moment() {
-            Some(moment) => {
-                moment.saturating_sub(self.moments.read).div_ceil(1000) <= longest_spin
-            }
-            None => false,
-        }
+        let read = self.moments.read;
+        let next = self.next_moment();
+        next.is_some_and(|next| next.saturating_sub(read).div_ceil(1000) <= longest_spin)
     }
 }
 

@@ -107,6 +107,7 @@ fn admit<B: Scripted + Drop>(
     ensures kept { OnErr result (MakesRoom task (λ slot. slot.told) worker.old worker.new shared.old shared.new) }
 {
     let Ok(()) = make_room(worker, alloc, task, shared) else {
+        // Let go by a call, so that its drop is proved once (docs/DECISIONS.md, 49).
         drop(request);
         return Err(AllocError);
     };

@@ -1,13 +1,43 @@
--- The acts of words.
-use Rattle.std.proofs.Common.{◌≡◌, ℕ, zero, suc, ◌+◌, ◌-◌, ◌<◌, ◌≤◌, ◌^◌, Bool, true, false, not, List, [], ◌∷◌, Option, Some, None, IfSome, IfNone, is_some, IsTrue, slice_get, length, drop, refl, sym, ap, subst, ◌∙◌, arith}
-use Rattle.std.proofs.lemmas.Bool.{true≢false}
-use Rattle.std.proofs.lemmas.Option.{none-some}
-use Rattle.exec_request.specs.declared.request.Request.{Request}
-use Rattle.exec_task.specs.{Sight.{Sight, WouldGrow}, declared.body.{Act.{Act, TheVariants.Register}, Said.Said}}
-use Rattle.exec_machine.specs.{declared.{config.{ScriptWord.ScriptWord}, state.Code.Code}, Tests.is_empty}
+-- The words of a script, and the acts of words.
+use Rattle.std.proofs.Common.{◌≡◌, ℕ, zero, suc, ◌+◌, ◌<◌, Bool, true, false, List, [], ◌∷◌, drop, refl, sym, ap, ◌∙◌, arith, ◌≤◌, ◌^◌, not, Option, Some, None, IfSome, IfNone, is_some, IsTrue, slice_get, length, subst}
+use Rattle.exec_run.{proofs.{Names.{cases_Bool, leb-false, get_or-drop, ScriptWord, Code, true≢false, none-some, Request, Sight, WouldGrow, Act, Register, Said, is_empty}, Wanted.{any_request, some_request}}, specs.{Script.{is_passed, passed_over, word_at, word_in, word_of_wait, Played, Begets, CanPlay, newest, held_by, place_by, gives, asked_by, AsksFor, IsPlainActOf}, Asking.{asks_request, moves_bytes, CanAsk, IsInTime, IsRequestOf}, declared.{asking.Limits.Limits, script.{Asked.{Asked as Question}}}}}
 use Rattle.exec_machine.specs.declared.config.ScriptWord.TheVariants as word
-use Rattle.exec_run.specs.{Asking.{asks_request, moves_bytes, CanAsk, IsInTime, IsRequestOf}, declared.{asking.Limits.Limits, script.Asked.Asked as Question}, Script.{Played, Begets, CanPlay, newest, held_by, place_by, is_passed, passed_over, word_in, gives, asked_by, AsksFor, IsPlainActOf}}
-use Rattle.exec_run.proofs.{Wanted.{any_request, some_request}, Words.{found, there_of}}
+
+-- The words of a script: which of them are passed over.
+
+-- one word is passed over, and then those behind it
+pub skips : (none : Bool) (tasks : ℕ) (words : List ScriptWord) (place : ℕ) → is_passed none tasks (word_at words place) ≡ true → passed_over none tasks (drop place words) ≡ suc (passed_over none tasks (drop (suc place) words))
+skips none tasks [] place h = grind arith
+skips none tasks (w ∷ words) zero h = rw h refl
+skips none tasks (w ∷ words) (suc place) h = skips none tasks words place h
+
+-- so as many are passed over from there on as before
+pub goes_on : (none : Bool) (tasks : ℕ) (words : List ScriptWord) (place all : ℕ) → is_passed none tasks (word_at words place) ≡ true → place + passed_over none tasks (drop place words) ≡ all
+    → place + 1 + passed_over none tasks (drop (place + 1) words) ≡ all
+goes_on none tasks words place all passes so_far =
+    let one = skips none tasks words place passes in
+    let next : suc place ≡ place + 1 = omega arith in
+    let same = ap (λ k. passed_over none tasks (drop k words)) next in
+    omega (arith, one, so_far, same)
+
+-- THE WORD THAT WAS FOUND is not passed over
+
+not_passed : (none : Bool) (tasks : ℕ) (words : List ScriptWord) → is_passed none tasks (word_at words (passed_over none tasks words)) ≡ false
+not_passed none tasks [] = refl
+not_passed none tasks (w ∷ words) = grind (arith, cases_Bool, not_passed none tasks words)
+
+wait_not_passed : (none : Bool) (tasks : ℕ) (stopped : Bool) → is_passed none tasks (word_of_wait stopped) ≡ false
+wait_not_passed = grind arith
+
+found_at : (none : Bool) (tasks : ℕ) (words : List ScriptWord) (place : ℕ) → is_passed none tasks (word_at words (place + passed_over none tasks (drop place words))) ≡ false
+found_at none tasks words place =
+    ap (is_passed none tasks) (sym (get_or-drop place words (passed_over none tasks (drop place words)) word.End)) ∙ not_passed none tasks (drop place words)
+
+pub found : (c : Code) (words : List ScriptWord) (stopped none : Bool) (tasks place : ℕ) → is_passed none tasks (word_in c words stopped (place + passed_over none tasks (drop place words))) ≡ false
+found = grind (arith, found_at, wait_not_passed)
+
+pub there_of : (none : Bool) (tasks task : ℕ) → is_passed none tasks (word.Wake task) ≡ false → task < tasks
+there_of none tasks task h = leb-false tasks task h
 
 -- what is known of a word that was found, and of the act that was made of it
 pub record IsPlainly (scripts : List (List ScriptWord)) (limits : Limits) (held : List ℕ) (w : ScriptWord) (a : Act Played) : Type 0 where
@@ -27,8 +57,7 @@ some_within (r ∷ held) zero l = refl
 some_within (r ∷ held) (suc k) l = some_within held k (omega arith)
 
 pub newest_is : (held : List ℕ) → not (is_some (newest held)) ≡ is_empty held
-newest_is [] = refl
-newest_is (r ∷ held) = ap not (some_within (r ∷ held) (length (r ∷ held) - 1) (omega arith))
+newest_is = grind (arith, some_within)
 
 -- what is known of a step before its act is made
 pub record IsNext (s : Played) (told : Said) (sees : Option Sight) (at : ℕ) (holds : Bool) (w : ScriptWord) : Type 0 where
@@ -123,8 +152,7 @@ made_begets = grind arith
 
 -- the same, of what was computed
 pub made_here : (s : Played) (scripts : List (List ScriptWord)) (sees : Option Sight) (limits : Limits) (w : ScriptWord) (n m : Option ℕ) (request : Option Request) (a : Act Played) → scripts ≡ s.scripts → limits ≡ s.limits → n ≡ m → IsMade scripts sees limits w n request a → IsMade s.scripts sees s.limits w m request a
-made_here s scripts sees limits w n m request a same_scripts same_limits same_newest made =
-    subst (λ xs. IsMade xs sees s.limits w m request a) same_scripts (subst (λ k. IsMade scripts sees k w m request a) same_limits (subst (λ o. IsMade scripts sees limits w o request a) same_newest made))
+made_here = grind arith
 
 pub makes : (s s' : Played) (told : Said) (sees : Option Sight) (at next : ℕ) (holds : Bool) (w : ScriptWord) (request : Option Request) (a : Act Played) → IsNext s told sees at holds w
     → IsMade s.scripts sees s.limits w (newest (held_by s.asked s.held told)) request a → (at < length s.words → next ≡ at + 1) → s' ≡ stepped s told a next → gives s sees told a s' sees
@@ -139,4 +167,4 @@ wanted sees limits late w None needed same_limits is same true_of = absurd (true
 pub state_is : (s : Played) (told : Said) (a : Act Played) (code : Code) (words : List ScriptWord) (scripts : List (List ScriptWord)) (limits : Limits) (place before : ℕ) (held : List ℕ) (asked : Question) → code ≡ s.code → words ≡ s.words → scripts ≡ s.scripts → limits ≡ s.limits
     → before ≡ place_by s told → held ≡ held_by s.asked s.held told → asked ≡ asked_by a
     → (let it : Played = record { code = code; words = words; scripts = scripts; limits = limits; place = place; before = before; held = held; asked = asked } in it) ≡ stepped s told a place
-state_is s told a code words scripts limits place before held asked same_code same_words same_scripts same_limits there holds question = rw (same_code, same_words, same_scripts, same_limits, there, holds, question) refl
+state_is = grind arith

@@ -1,14 +1,7 @@
 -- No caller turns for ever: each quiet line of one costs credit.
 use Rattle.std.proofs.Common.{◌≡◌, ◌⊎◌, ℕ, ◌+◌, ◌<◌, ◌≤◌, Bool, true, false, not, List, [], ◌∷◌, if◌then◌else◌, refl, sym, subst, inl, inr, arith}
-use Rattle.std.specs.Prelude.{nat_lt}
-use Rattle.std.proofs.lemmas.{Bool.{and_from, and_parts, cases_Bool, cases_lt, eqb-true, false≢true, lt-ltb}, List.{get_or-set_same, get_or_past, set_past}}
-use Rattle.exec_machine.specs.{declared.{config.Configuration.Configuration, event.{Event.Event, StepResult.{TheVariants.{Did}}}, step.Action.Action}, Examples.{Told, choices_of, lines_of}, Progress.{Party, Party.{Caller}, Plan, Stretch, is_anyone_closing, is_quiet_step, no_stretch, one_more, quiet_bound, same_party}, Text.is_quiet, World.World}
+use Rattle.exec_run.{proofs.{Names.{nat_lt, and_from, and_parts, cases_Bool, cases_lt, eqb-true, false≢true, lt-ltb, get_or-set_same, get_or_past, set_past, Configuration, Event, Did, Action, Told, choices_of, lines_of, Party, Caller, Plan, Stretch, is_anyone_closing, is_quiet_step, no_stretch, one_more, quiet_bound, same_party, is_quiet, World, Called, move_of_caller, Playing, by_action, by_call, by_step, caller_of, Things, call_credit, at_most, falls, spawns, wakes}, Stretches.{leads_there, ends, is_caller, longer_of}}, specs.Steps.Goes}
 use Rattle.exec_machine.specs.declared.step.Action.TheVariants as action
-use Rattle.exec_moves.specs.{Call.{Called}, MoveOfCaller.move_of_caller, Plays.{Playing, by_action, by_call, by_step, caller_of}, State.Things}
-use Rattle.exec_credit.specs.CallCredit.{call_credit}
-use Rattle.exec_credit.proofs.CallFalls.{at_most, falls, spawns, wakes}
-use Rattle.exec_run.specs.Steps.{Goes}
-use Rattle.exec_run.proofs.{Leads.{leads_there}, Stretches.{ends, is_caller, longer_of}}
 
 -- what caller j has left
 abbrev left_to : Playing → ℕ → ℕ

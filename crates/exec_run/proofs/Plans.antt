@@ -1,13 +1,57 @@
 -- The plan of a trace, which its bodies play.
-use Rattle.std.proofs.Common.{◌≡◌, ℕ, zero, suc, ◌+◌, ◌-◌, ◌^◌, ◌<◌, ◌≤◌, List, [], ◌∷◌, ◌++◌, length, replicate, slice_get, Some, None, sym, ap, subst, ◌∙◌, arith}
-use Rattle.std.specs.Prelude.{Vec}
-use Rattle.std.specs.declared.alloc.Global.{Global}
-use Rattle.std.proofs.lemmas.{Grind.replicate_next, List.{length-map, length-replicate}, Option.none-some}
-use Rattle.exec_machine.specs.declared.{config.{Configuration.Configuration, ScriptWord.ScriptWord}, state.Code.TheVariants.{Root, Waits}}
-use Rattle.exec_core.specs.Lift.{IsPlanOf, IsRootOf}
-use Rattle.exec_text.specs.{declared.trace.Trace.Trace, Grammar.{Meaning, MeaningFits, meaning_of}}
-use Rattle.exec_run.specs.{Asking.limits_of, Ranges.first_out_of_range, Script.{Played, begun, IsProgram, Runs, held_told, itself, spot_told, words_of_all}}
-use Rattle.exec_run.proofs.{InRange.in_range, Playable.{can_play, program_of}}
+use Rattle.std.proofs.Common.{◌≡◌, ℕ, ◌≤◌, Bool, true, List, [], ◌∷◌, None, refl, arith, ◌^◌, length, ◌+◌, ◌==◌, ap, subst, zero, suc, ◌-◌, ◌<◌, ◌++◌, replicate, slice_get, Some, sym, ◌∙◌}
+use Rattle.exec_run.{proofs.Names.{list_all, cases_Bool, and_parts, leb-true, none-some, LONGEST_TIMEOUT, Configuration, ScriptWord, Meaning, MeaningFits, WordFits, WordNames, if◌then◌else◌, Vec, Global, length-map, length-slice_split, count_by-le-length, length-filter, slice_split, lines, lines_of_parts, Trace, IsTraceOf, meaning_of, says_something, lines_count, replicate_next, length-replicate, Root, Waits, IsPlanOf, IsRootOf}, specs.{declared.field.Field.Field, Ranges.{first_out_of, first_out_of_range}, Asking.limits_of, Script.{CanPlay, IsProgram, Played, begun, Runs, held_told, itself, spot_told, words_of_all}}}
+
+-- A configuration of which no part is out of its range.
+
+all_within : (parts : List (Field × ℕ × Bool)) → first_out_of parts ≡ None → list_all (λ part. part.2) parts ≡ true
+all_within [] none = refl
+all_within (part ∷ parts) none = grind (arith, cases_Bool, none-some, all_within parts)
+
+-- what a run and its scripts have to know of it
+pub record IsInRange (c : Configuration) : Type 0 where
+  pub some_worker : 1 ≤ c.workers
+  pub few_workers : c.workers ≤ 64
+  pub connect : c.connect ≤ LONGEST_TIMEOUT
+  pub rw : c.rw ≤ LONGEST_TIMEOUT
+  pub files : c.files ≤ 64
+  pub sockets : c.sockets ≤ 1024
+
+pub in_range : (c : Configuration) → first_out_of_range c ≡ None → IsInRange c
+in_range = grind (arith, and_parts, all_within, leb-true)
+
+-- The words of a trace that was read can be played.
+
+pub record IsSmall (c : Configuration) : Type 0 where
+  pub sockets : c.sockets ≤ 1024
+  pub files : c.files ≤ 64
+
+pub can_play : (c : Configuration) (many : ℕ) (w : ScriptWord) → IsSmall c → WordFits c w → WordNames many w → CanPlay many w
+can_play = grind arith
+
+-- what is known of the plan of a trace with not too many scripts
+pub program_of : (m : Meaning) → MeaningFits m → first_out_of_range m.plan.config ≡ None → length m.plan.scripts ≤ 2 ^ 32 → IsProgram m.plan.scripts (limits_of m.plan.config) m.plan
+program_of = grind (arith, in_range, can_play)
+
+-- A text has no more scripts than bytes.
+
+last_few : (b : Bool) (x : List ℕ) → length (if b then [] else x ∷ []) ≤ 1
+last_few = grind arith
+
+parts_few : (parts : List (List ℕ)) → length (lines_of_parts parts) ≤ length parts
+parts_few [] = omega arith
+parts_few (x ∷ []) = last_few (length x == 0) x
+parts_few (x ∷ y ∷ more) = let fewer = parts_few (y ∷ more) in omega (arith, fewer)
+
+lines_few : (text : List ℕ) → length (lines text) ≤ length text + 1
+lines_few text = omega (arith, parts_few (slice_split (λ b. b == 10) text), length-slice_split (λ b. b == 10) text, count_by-le-length (λ b. b == 10) text)
+
+pub few_scripts : (text : List ℕ) (m : Meaning) → length text ≤ 2 ^ 26 → IsTraceOf text m → length m.plan.scripts ≤ 2 ^ 32
+few_scripts text m short trace =
+    omega (arith, short, lines_few text, length-filter says_something (lines text), count_by-le-length says_something (lines text), ap length trace.spelled, lines_count m)
+
+pub few_there : (t : Trace) → length (meaning_of t).plan.scripts ≤ 2 ^ 32 → length t.scripts.items ≤ 2 ^ 32
+few_there = grind (arith, length-map)
 
 -- ROOTS
 
@@ -54,7 +98,7 @@ is_plan m roots told fits in_range_of few same are =
 -- OF A TRACE THAT WAS READ, whose scripts and root are lent
 
 few_of : (t : Trace) → length t.scripts.items ≤ 2 ^ 32 → length (meaning_of t).plan.scripts ≤ 2 ^ 32
-few_of t few = subst (λ n. n ≤ 2 ^ 32) (sym (length-map t.scripts.items (λ (words : Vec ScriptWord Global). words.items))) few
+few_of = grind (arith, length-map)
 
 pub known_of : (t : Trace) (scripts : List (Vec ScriptWord Global)) → MeaningFits (meaning_of t) → first_out_of_range t.config ≡ None → length t.scripts.items ≤ 2 ^ 32 → scripts ≡ t.scripts.items
     → IsProgram (words_of_all scripts) (limits_of t.config) (meaning_of t).plan

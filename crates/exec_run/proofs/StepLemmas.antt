@@ -1,17 +1,73 @@
 -- How lines, steps and what was given of them go together.
-use Rattle.std.proofs.Common.{◌≡◌, ℕ, suc, Bool, true, false, cond, ◌+◌, ◌-◌, ◌<◌, ◌≤◌, ◌⊎◌, inl, inr, List, [], ◌∷◌, ◌++◌, Option, Some, option_and_then, refl, sym, ap, subst, append_assoc, append-nil, ◌∙◌, arith, eq-eqb, add-zero, zero-add, take, drop, length, get_or}
-use Rattle.std.proofs.lemmas.List.{take-append-drop, take_more}
-use Rattle.exec_task.specs.declared.body.Said.{Said}
-use Rattle.exec_machine.specs.{declared.{config.Configuration.Configuration, event.{Event.Event, StepResult.TheVariants.{Refused, Did}, Line.Line}, step.{Step.Step, Action.Action}}, Run.{Follows, same_action, is_refused, after_work, after_step, after_steps}, Progress.Plan, Examples.{Told, lines_of}}
-use Rattle.exec_machine.specs.declared.step.Step.TheVariants as step
+use Rattle.std.proofs.Common.{◌≡◌, ℕ, Bool, List, [], ◌∷◌, ◌++◌, Option, Result, OnOk, OnErr, refl, sym, ap, subst, append_assoc, append-nil, ◌∙◌, arith, ◌≤◌, length, Some, None, IfSome, IfNone, suc, true, false, cond, ◌+◌, ◌-◌, ◌<◌, ◌⊎◌, inl, inr, option_and_then, eq-eqb, add-zero, zero-add, take, drop, get_or}
+use Rattle.exec_run.{proofs.Names.{flat_map-append, filter-append, Line, Told, lines_of, text_of_log, told_lines, Said, One, Action, Plan, IsBorn, IsNamed, Spot, Carries, StepNames, take-append-drop, take_more, Configuration, Event, Refused, Did, Step, Follows, same_action, after_work, after_step, after_steps, Playing, by_step, played, IsPaced, Core, IsReady, Shows, Applies, IsSteady, IsSteadyThere, KeepsOn, IsOrderly, orderly, StepFits}, specs.{Log.{Gave, GaveFront, told_text, AreTaken, IsBegun}, Steps.{told_of_line, IsStep, Goes, StandsAt, TakesLine, BreaksLine, Works, Leads, Breaks}}}
 use Rattle.exec_machine.specs.declared.step.Action.TheVariants as action
-use Rattle.exec_moves.specs.{Plays.{Playing, by_step}, Departures.played}
-use Rattle.exec_parts.specs.Spots.{Spot}
-use Rattle.exec_progress.specs.Paced.{IsPaced}
-use Rattle.exec_core.{specs.{declared.executor.Core.Core, Lift.{IsReady, Shows, Applies, Carries}, Steady.{IsSteady, IsSteadyThere, KeepsOn}, Turns.IsOrderly}, proofs.InTurn.orderly}
-use Rattle.exec_text.specs.Grammar.{StepFits, StepNames}
-use Rattle.exec_run.specs.{Log.{Gave, GaveFront, AreTaken, IsBegun, told_text}, Steps.{told_of_line, IsStep, Goes, StandsAt, TakesLine, BreaksLine, Works, Leads, Breaks}}
-use Rattle.exec_run.proofs.Told.{whole_front, no_front, gave_untold, lines_more, gave_more, front_more}
+use Rattle.exec_machine.specs.declared.step.Step.TheVariants as step
+
+-- What was given of lines that were told.
+
+-- what holds of each error
+pub on_err : {T E P : Type 0} (r : Result T E) → P → OnErr r P
+on_err = grind arith
+
+-- what holds of each answer
+pub on_ok : {T E P : Type 0} (r : Result T E) → P → OnOk r P
+on_ok = grind arith
+
+pub gave_none : (old : Option (List ℕ)) → Gave old old []
+gave_none = grind (arith, append-nil)
+
+pub gave_on : (old mid new : Option (List ℕ)) (xs ys : List ℕ) → Gave old mid xs → Gave mid new ys → Gave old new (xs ++ ys)
+gave_on = grind (arith, append_assoc)
+
+-- all of the bytes are a front of them
+pub whole_front : (old new : Option (List ℕ)) (xs : List ℕ) → Gave old new xs → GaveFront old new xs
+whole_front = grind (arith, append-nil)
+
+-- and nothing is
+pub no_front : (old : Option (List ℕ)) (xs : List ℕ) → GaveFront old old xs
+no_front = grind (arith, gave_none)
+
+pub front_on : (old mid new : Option (List ℕ)) (xs ys : List ℕ) → Gave old mid xs → GaveFront mid new ys → GaveFront old new (xs ++ ys)
+front_on = grind (arith, append_assoc, gave_on)
+
+-- what is given of lines, of which these come last
+abbrev text_of_lines : Bool → List Line → List ℕ
+text_of_lines quiet ls = text_of_log (told_lines quiet ls)
+
+pub gave_untold : (quiet : Bool) (old : Option (List ℕ)) → Gave old old (told_text quiet [])
+gave_untold = grind (arith, gave_none)
+
+text_of_more : (quiet : Bool) (ls ms : List Line) → text_of_lines quiet ls ++ text_of_lines quiet ms ≡ text_of_lines quiet (ls ++ ms)
+text_of_more = grind (arith, flat_map-append, filter-append)
+
+pub lines_more : (told more : List Told) → lines_of (told ++ more) ≡ lines_of told ++ lines_of more
+lines_more [] more = refl
+lines_more (it ∷ told) more = ap (λ ls. it.0 ∷ ls) (lines_more told more)
+
+pub told_of_more : (quiet : Bool) (told more : List Told) → told_text quiet told ++ told_text quiet more ≡ told_text quiet (told ++ more)
+told_of_more quiet told more = text_of_more quiet (lines_of told) (lines_of more) ∙ ap (text_of_lines quiet) (sym (lines_more told more))
+
+pub gave_more : (quiet : Bool) (told more : List Told) (old mid new : Option (List ℕ)) → Gave old mid (told_text quiet told) → Gave mid new (told_text quiet more) → Gave old new (told_text quiet (told ++ more))
+gave_more quiet told more old mid new first second =
+    subst (λ (xs : List ℕ). Gave old new xs) (told_of_more quiet told more) (gave_on old mid new (told_text quiet told) (told_text quiet more) first second)
+
+pub front_more : (quiet : Bool) (told more : List Told) (old mid new : Option (List ℕ)) → Gave old mid (told_text quiet told) → GaveFront mid new (told_text quiet more) → GaveFront old new (told_text quiet (told ++ more))
+front_more quiet told more old mid new first second =
+    subst (λ (xs : List ℕ). GaveFront old new xs) (told_of_more quiet told more) (front_on old mid new (told_text quiet told) (told_text quiet more) first second)
+
+-- The body that a step carries: that of the task which a caller spawns.
+
+module _ {B L : Type 0} (left : B → L) (runs : L → Plan → Option ℕ → Type 0) (holds : L → Option Said → List ℕ) (spot : L → Option Said → Spot) where
+  -- one of a script that is known
+  pub carries_body : (known : Plan → Type 0) (name : L → ℕ) → IsNamed runs spot name → (p : Plan) (a : Action) (j k : ℕ) (body : Option B) → a ≡ action.Spawn j k → known p → StepNames (length p.scripts) (One a)
+      → IfSome body (λ b. (q : Plan) → known q → IsBorn runs holds spot q k (left b)) → IfNone body ((q : Plan) → known q → length q.scripts ≤ k) → Carries left runs holds spot name p a body
+  carries_body known name named p a j k body is knows names born none =
+      subst (λ (x : Action). Carries left runs holds spot name p x body) (sym is) (by_body body born none)
+    where
+      by_body : (o : Option B) → IfSome o (λ b. (q : Plan) → known q → IsBorn runs holds spot q k (left b)) → IfNone o ((q : Plan) → known q → length q.scripts ≤ k) → Carries left runs holds spot name p (action.Spawn j k) o
+      by_body (Some b) is_born absent = let it = is_born p knows in (b, refl, named p (left b) k (it.runs_it None tt) it.begins, it)
+      by_body None is_born absent = grind arith
 
 -- RUNS
 
@@ -36,7 +92,7 @@ all_taken steps =
     record { whole = steps; some = []; rest = []; are = sym (append-nil steps); first = sym (append-nil steps); next = inl refl }
 
 pub none_taken : (steps : List Step) → AreTaken [] steps
-none_taken steps = record { whole = []; some = []; rest = steps; are = refl; first = refl; next = inl refl }
+none_taken = grind arith
 
 pub lines_done : (steps : List Step) (lines : List Line) → ((ss : List Step) (ls : List Line) → after_steps (steps ++ ss) (lines ++ ls) ≡ after_steps ss ls) → after_steps steps lines ≡ Some []
 lines_done steps lines has_lines =
@@ -56,11 +112,11 @@ either_way true ls = refl
 either_way false ls = refl
 
 last_line : (i : ℕ) (l : Line) (ls : List Line) → l.action ≡ action.Work i → after_work i 1 (l ∷ ls) ≡ Some ls
-last_line i l ls is = rw (is, eq-eqb i i refl) (either_way (is_refused l.said) ls)
+last_line i l ls is = grind (arith, eq-eqb)
 
 -- what comes behind one more line
 behind : (i m n : ℕ) (told : List Told) (ls : List Line) (it : Told) → ((n : ℕ) (ls : List Line) → after_work i (m + n) (lines_of told ++ ls) ≡ after_work i n ls) → after_work i (m + n) (lines_of (told ++ it ∷ []) ++ ls) ≡ after_work i n (it.0 ∷ ls)
-behind i m n told ls it accepted = ap (after_work i (m + n)) (behind_more told (it ∷ []) ls) ∙ accepted n (it.0 ∷ ls)
+behind = grind (arith, behind_more)
 
 -- the lines of one step, behind which anything may come
 step_done : (s : Step) (lines : List Line) → ((ls : List Line) → after_step s (lines ++ ls) ≡ Some ls) → (ss : List Step) (ls : List Line) → after_steps (s ∷ ss) (lines ++ ls) ≡ after_steps ss ls
@@ -189,18 +245,15 @@ module _ {B L : Type 0} (left : B → L) (runs : L → Plan → Option ℕ → T
         gave = gave_more quiet works.told (takes.it ∷ []) old mid new works.gave takes.gave;
       }
 
-  works_lead : (quiet : Bool) (p : Plan) (x : Playing) (i n : ℕ) (d : Core B) (old new : Option (List ℕ)) → Works left runs holds spot known quiet p x i n d old new → Leads left runs holds spot known quiet p x (step.Work i n ∷ []) d old new
-  works_lead quiet p x i n d old new works =
+  pub works_all : (quiet : Bool) (p : Plan) (x : Playing) (i m n : ℕ) (d : Core B) (old new : Option (List ℕ)) → m ≡ n → Works left runs holds spot known quiet p x i m d old new → Leads left runs holds spot known quiet p x (step.Work i n ∷ []) d old new
+  works_all quiet p x i m n d old new all works =
       record {
         told = works.told;
-        has_lines = step_done (step.Work i n) (lines_of works.told) (λ ls. ap (λ k. after_work i k (lines_of works.told ++ ls)) (sym (add-zero n)) ∙ works.accepted 0 ls);
+        has_lines = step_done (step.Work i n) (lines_of works.told) (λ ls. ap (λ k. after_work i k (lines_of works.told ++ ls)) (sym all ∙ sym (add-zero m)) ∙ works.accepted 0 ls);
         goes = works.goes;
         stands = works.stands;
         gave = works.gave;
       }
-
-  pub works_all : (quiet : Bool) (p : Plan) (x : Playing) (i m n : ℕ) (d : Core B) (old new : Option (List ℕ)) → m ≡ n → Works left runs holds spot known quiet p x i m d old new → Leads left runs holds spot known quiet p x (step.Work i n ∷ []) d old new
-  works_all quiet p x i m n d old new all works = subst (λ (k : ℕ). Leads left runs holds spot known quiet p x (step.Work i k ∷ []) d old new) all (works_lead quiet p x i m d old new works)
 
   pub works_refused : (quiet : Bool) (p : Plan) (x : Playing) (i m n : ℕ) (l : Line) (c d : Core B) (old mid new : Option (List ℕ)) → Works left runs holds spot known quiet p x i m c old mid
       → ((y : Playing) → StandsAt left runs holds spot known p c y → TakesLine left runs holds spot known quiet p y (action.Work i) l d mid new) → l.said ≡ Refused → m < n → Leads left runs holds spot known quiet p x (step.Work i n ∷ []) d old new
@@ -227,7 +280,7 @@ module _ {B L : Type 0} (left : B → L) (runs : L → Plan → Option ℕ → T
       → (new ≡ mid) ⊎ BreaksLine quiet p (played p.config x works.told) (action.Work i) mid new → Breaks quiet p x (step.Work i n ∷ []) old new
   works_stopped quiet p x i m n c old mid new works more (inl same) =
       subst (λ (given : Option (List ℕ)). Breaks quiet p x (step.Work i n ∷ []) old given) (sym same)
-      (broke_between quiet p x (step.Work i m ∷ []) (step.Work i n ∷ []) c old mid (part_taken i m n (omega arith)) (works_lead quiet p x i m c old mid works))
+      (broke_between quiet p x (step.Work i m ∷ []) (step.Work i n ∷ []) c old mid (part_taken i m n (omega arith)) (works_all quiet p x i m m c old mid refl works))
   works_stopped quiet p x i m n c old mid new works more (inr breaks) =
       let told = works.told ++ breaks.it ∷ [] in
       record {

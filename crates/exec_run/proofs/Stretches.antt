@@ -1,8 +1,11 @@
 -- Quiet lines one after another, those of workers and those of callers apart: where neither are as many as the bound, no party makes so many.
-use Rattle.std.proofs.Common.{◌≡◌, ℕ, ◌<◌, ◌≤◌, Bool, true, false, ◌&&◌, if◌then◌else◌, List, [], ◌∷◌, refl, subst, arith}
-use Rattle.std.specs.Prelude.{nat_lt}
-use Rattle.std.proofs.lemmas.Bool.{and_from, and_parts, lt-ltb, ltb-true}
-use Rattle.exec_machine.specs.{declared.{config.Configuration.Configuration, event.{Line.Line, StepResult.{StepResult, TheVariants.{Did, Refused}}}, step.Action.Action}, Choice.Choice, Run.after_line, Progress.{Party, Party.{Caller, Nobody, Worker}, Stretch, is_quiet_step, is_solo, longer, no_stretch, one_more, party_of, quiet_bound}, World.World}
+use Rattle.std.proofs.Common.{◌≡◌, arith, ℕ, ◌<◌, ◌≤◌, Bool, true, false, ◌&&◌, if◌then◌else◌, List, [], ◌∷◌, refl, subst}
+use Rattle.exec_run.{proofs.Names.{Told, Plan, after_line, Playing, by_step, nat_lt, and_from, and_parts, lt-ltb, ltb-true, Configuration, Line, StepResult, Did, Refused, Action, Choice, Party, Caller, Nobody, Worker, Stretch, is_quiet_step, is_solo, longer, no_stretch, one_more, party_of, quiet_bound, World}, specs.Steps.IsStep}
+
+-- Where a line of a log leads.
+
+pub leads_there : (p : Plan) (x : Playing) (it : Told) → IsStep p x it → (by_step p.config x it.0.action).next.world ≡ after_line p.config x.world it.0.action it.0.said it.1
+leads_there = grind arith
 
 abbrev pub is_caller : Party → Bool
 is_caller (Caller j) = true
@@ -33,12 +36,10 @@ theirs mine s = if mine s.party then s else no_stretch
 
 module _ (mine : Party → Bool) where
   either_none : (b : Bool) → (if b then no_stretch else no_stretch) ≡ no_stretch
-  either_none true = refl
-  either_none false = refl
+  either_none = grind arith
 
   never : (b : Bool) (s : Stretch) → (if b && false then s else no_stretch) ≡ no_stretch
-  never true s = refl
-  never false s = refl
+  never = grind arith
 
   -- one more quiet line
   more : (p : Party) (s : Stretch) → (if mine p && true then one_more p (theirs mine s) else no_stretch) ≡ theirs mine (one_more p s)

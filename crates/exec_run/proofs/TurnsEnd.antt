@@ -1,15 +1,7 @@
 -- No worker turns for ever: each quiet line of one costs some of what it has left.
 use Rattle.std.proofs.Common.{◌≡◌, ◌⊎◌, ℕ, suc, ◌+◌, ◌^◌, ◌<◌, ◌≤◌, Bool, true, false, not, List, [], ◌∷◌, length, if◌then◌else◌, refl, sym, ap, subst, ◌∙◌, inl, inr, arith}
-use Rattle.std.specs.Prelude.{nat_lt}
-use Rattle.std.proofs.lemmas.Bool.{and_from, and_parts, eqb-true, false≢true, lt-ltb, not-true}
-use Rattle.exec_machine.specs.{declared.{config.Configuration.Configuration, event.{StepResult.{TheVariants.{Did}}}, step.{Action.Action}}, Callers.is_enabled, Examples.{Told, choices_of, lines_of}, Tests.is_open, Progress.{quiet_bound, Party, Party.{Caller, Nobody, Worker}, Plan, Stretch, is_anyone_closing, is_quiet_step, no_stretch, one_more, same_party}, Text.is_quiet, World.{World, own_of, seat_of}}
+use Rattle.exec_run.{proofs.{Names.{nat_lt, and_from, and_parts, eqb-true, false≢true, lt-ltb, not-true, Configuration, Did, Action, is_enabled, Told, choices_of, lines_of, is_open, quiet_bound, Party, Caller, Nobody, Worker, Plan, Stretch, is_anyone_closing, is_quiet_step, no_stretch, one_more, same_party, is_quiet, World, own_of, seat_of, move, Playing, by_action, by_move, by_step, desk_of, Moved, Things, left_to, bound_keeps, still_open, IsPacedThere, IsSteadyThere, KeepsOn}, Stretches.{leads_there, ends, is_worker, longer_of}}, specs.Steps.Goes}
 use Rattle.exec_machine.specs.declared.step.Action.TheVariants as action
-use Rattle.exec_moves.specs.{Move.move, Plays.{Playing, by_action, by_move, by_step, desk_of}, State.{Moved, Things}}
-use Rattle.exec_progress.specs.{Left.left_to}
-use Rattle.exec_progress.proofs.{Lengths.{bound_keeps}, Stood.{still_open}}
-use Rattle.exec_core.specs.Steady.{IsPacedThere, IsSteadyThere, KeepsOn}
-use Rattle.exec_run.specs.Steps.{Goes}
-use Rattle.exec_run.proofs.{Leads.{leads_there}, Stretches.{ends, is_worker, longer_of}}
 
 -- So many quiet lines of one worker were made, and with what it has left they are fewer than the bound.
 abbrev Spent : Configuration → Playing → Stretch → Type 0

@@ -1,19 +1,9 @@
 -- Requests that words ask for.
 use Rattle.std.proofs.Common.{◌≡◌, ℕ, ◌+◌, ◌-◌, ◌%◌, ◌≤◌, ◌⊎◌, inl, inr, Bool, true, false, List, [], Option, Some, None, IfSome, replicate, length, length-append, refl, sym, ap, subst, ◌∙◌, arith}
-use Rattle.std.specs.Prelude.{if◌then◌else◌}
-use Rattle.std.proofs.lemmas.List.{length-replicate, length-take}
-use Rattle.std.proofs.lemmas.Bool.{le-leb, true≢false}
-use Rattle.exec_bufs.specs.Buffers.{Buffer, resized}
-use Rattle.exec_outcomes.specs.{Accounts.is_durable, Lawful.aligned, Outcomes.Asked, declared.outcome.Kind.Kind}
+use Rattle.exec_run.{proofs.Names.{if◌then◌else◌, length-replicate, length-take, le-leb, true≢false, resized, is_durable, aligned, Asked, Kind, asks_hint, is_syncing, write_kind, IsDirectRead, size_for, Single, Cache, Enabled, Disabled, ReadAtRequest, RecvRequest, Request, SendRequest, Way, WriteAtRequest, WriteAtState, Writing, WritingSync, WritingBeforeSync, Sight, open_at, Configuration, ScriptWord, Operation, of_file, of_socket, operation_asked}, specs.{Asking.{moves_bytes, range_operation, CanAsk, CoversSeen, IsFilePart, IsFresh, IsRequestOf, IsSocketPart, IsWanted}, declared.asking.Limits.Limits}}
 use Rattle.exec_outcomes.specs.declared.outcome.Kind.TheVariants as kind
-use Rattle.exec_request.specs.{Buffers.{length_of, moved_of}, Hints.asks_hint, Syncing.{is_syncing, write_kind}, Views.IsDirectRead, Ways.{size_for}}
-use Rattle.exec_request.specs.declared.{buffers.WriteBuffers.{TheVariants.Single}, cache.Cache.{Cache, TheVariants.{Enabled, Disabled}}, read_at.ReadAtRequest.ReadAtRequest, recv.RecvRequest.RecvRequest, request.Request.Request, send.SendRequest.SendRequest, way.Way.Way, write_at.{WriteAtRequest.WriteAtRequest, WriteAtState.{WriteAtState, TheVariants.{Writing, WritingSync, WritingBeforeSync}}}}
 use Rattle.exec_request.specs.declared.request.Request.TheVariants as request
-use Rattle.exec_task.specs.Sight.{Sight, open_at}
-use Rattle.exec_machine.specs.{declared.{config.{Configuration.Configuration, ScriptWord.ScriptWord}, state.Operation.Operation}, Requests.{of_file, of_socket, operation_asked}}
 use Rattle.exec_machine.specs.declared.config.ScriptWord.TheVariants as word
-use Rattle.exec_parts.specs.{Spots.{wants_hint}}
-use Rattle.exec_run.specs.{Asking.{moves_bytes, range_operation, CanAsk, CoversSeen, IsFilePart, IsFresh, IsRequestOf, IsSocketPart, IsWanted}, declared.asking.Limits.Limits}
 
 -- NEW REQUESTS, of each kind
 
@@ -34,47 +24,20 @@ fresh_recv = grind arith
 abbrev way_by : Cache → Way
 way_by cache = if asks_hint cache then Way.Hinted else Way.Buffered
 
-buffered : (file offset n : ℕ) (r : ReadAtRequest) (cache : Cache) → n ≤ 1048576 → r.file ≡ file → r.offset ≡ offset → r.read ≡ 0 → length r.buf.bytes ≡ n → r.cache ≡ cache → r.way ≡ way_by cache
-    → IsFresh (of_file (if asks_hint cache then kind.Hint else kind.Read) file offset n) (request.ReadAt r)
-buffered = grind arith
-
 -- of bytes that are all zero at first
 fresh_read : (file offset n : ℕ) (r : ReadAtRequest) (cache : Cache) → n ≤ 1048576 → r.file ≡ file → r.offset ≡ offset → r.read ≡ 0 → r.buf ≡ record { bytes = resized n []; capacity = n } → r.cache ≡ cache → r.way ≡ way_by cache
     → IsFresh (of_file (if asks_hint cache then kind.Hint else kind.Read) file offset n) (request.ReadAt r)
-fresh_read file offset n r cache few of at begins buffer same way =
-    buffered file offset n r cache few of at begins (ap (λ (b : Buffer). length b.bytes) buffer ∙ zeros n) same way
+fresh_read = grind (arith, zeros)
 
 aligned_within : (n : ℕ) → n ≤ 1052672 → aligned n ≤ 2147479552
 aligned_within n few = omega arith
 
 fresh_direct : (file offset n : ℕ) (r : ReadAtRequest) → n ≤ 1048576 → IsDirectRead r file offset n → IsFresh (range_operation kind.Direct file offset n) (request.ReadAt r)
-fresh_direct file offset n r few it =
-    let size : length r.buf.bytes ≡ aligned (offset % 4096 + n) = ap (λ (b : Buffer). length b.bytes) it.buffer ∙ length-replicate {A = ℕ} (aligned (offset % 4096 + n)) 0 in
-    let within : aligned (offset % 4096 + n) ≤ 2147479552 = aligned_within (offset % 4096 + n) (omega arith) in
-    record {
-      fits = grind arith;
-      plain = omega (arith, size, within);
-    }
-
-no_hint_of_write : (state : WriteAtState) → false ≡ wants_hint (write_kind state)
-no_hint_of_write = grind arith
+fresh_direct = grind (arith, length-replicate, aligned_within)
 
 fresh_write : (file offset n : ℕ) (r : WriteAtRequest) (state : WriteAtState) → n ≤ 1048576 → is_syncing state ≡ false → r.file ≡ file → r.offset ≡ offset → r.write ≡ Single (replicate n 0) 0 → r.state ≡ state → r.cache ≡ Enabled
     → IsFresh (of_file (write_kind state) file offset n) (request.WriteAt r)
-fresh_write file offset n r state few going of at write same cache =
-    let many : length (replicate n 0) ≡ n = length-replicate {A = ℕ} n 0 in
-    record {
-      fits = record {
-        asked = asked_so (write_kind r.state) n (length_of r.write) 0 0 (ap length_of write ∙ many) refl ∙ ap (λ x. let it : Asked = record { kind = write_kind x; length = n; skip = 0 } in it) same;
-        target = of;
-        offset = at;
-        deadline = refl;
-        unmoved = ap (λ b. if b then 0 else moved_of r.write) (ap is_syncing same ∙ going) ∙ ap moved_of write;
-        unswitched = ap is_syncing same ∙ going;
-        hint = ap asks_hint cache ∙ no_hint_of_write state;
-      };
-      plain = rw write (refl, omega (arith, many, few));
-    }
+fresh_write = grind (arith, length-replicate)
 
 -- WHAT WORDS ASK FOR
 
@@ -97,14 +60,20 @@ no_cover it o r fresh undurable = λ durable. absurd (true≢false (sym durable 
 abbrev Is : Sight → Limits → ScriptWord → Type 0
 Is it limits w = (r : Request) × IsRequestOf it limits w r
 
+-- one of a socket, and one of a file, which need no permit
+of_peer : (it : Sight) (limits : Limits) (w : ScriptWord) (k : Kind) (socket n : ℕ) (r : Request) → ((c : Configuration) → operation_asked c it.moment w ≡ Some (of_socket k socket n (it.moment + c.rw))) → is_durable k ≡ false
+    → IsFresh (of_socket k socket n (it.moment + limits.rw)) r → Is it limits w
+of_peer it limits w k socket n r asks undurable fresh =
+    (r, record { wanted = by_deadline k socket n it.moment (it.moment + limits.rw) limits w r refl asks fresh; covers = no_cover it (of_socket k socket n (it.moment + limits.rw)) r fresh undurable })
+
+of_range : (it : Sight) (limits : Limits) (w : ScriptWord) (o : Operation) (r : Request) → ((c : Configuration) → operation_asked c it.moment w ≡ Some o) → is_durable o.kind ≡ false → IsFresh o r → Is it limits w
+of_range it limits w o r asks undurable fresh = (r, record { wanted = by_file o limits it.moment w r asks fresh; covers = no_cover it o r fresh undurable })
+
 some_send : (it : Sight) (limits : Limits) (socket n : ℕ) → IsSocketPart socket n → Is it limits (word.Send socket n)
 some_send it limits socket n can =
     let bytes : List ℕ = replicate n 0 in
     let r : SendRequest = record { fd = socket; write = Single bytes 0; deadline = Some (it.moment + limits.rw); sound = le-leb 0 (length bytes) (omega arith) } in
-    let fresh = fresh_send r socket n (it.moment + limits.rw) can.most refl refl refl in (
-      request.Send r,
-      assumption (by_deadline kind.Send socket n it.moment (it.moment + limits.rw) limits (word.Send socket n) (request.Send r) refl (λ c. refl) fresh, no_cover it (of_socket kind.Send socket n (it.moment + limits.rw)) (request.Send r) fresh refl),
-    )
+    of_peer it limits (word.Send socket n) kind.Send socket n (request.Send r) (λ c. refl) refl (fresh_send r socket n (it.moment + limits.rw) can.most refl refl refl)
 
 recv_by : (exact : Bool) (socket n deadline : ℕ) → RecvRequest
 recv_by exact socket n deadline =
@@ -113,24 +82,6 @@ recv_by exact socket n deadline =
 fresh_recv_by : (exact : Bool) (socket n deadline : ℕ) → n ≤ 1048576 → IsFresh (of_socket (if exact then kind.Fill else kind.Recv) socket n deadline) (request.Recv (recv_by exact socket n deadline))
 unfolding recv_by
 fresh_recv_by exact socket n deadline few = fresh_recv (recv_by exact socket n deadline) exact socket n deadline few refl refl refl refl refl refl
-
-some_recv : (it : Sight) (limits : Limits) (socket n : ℕ) → IsSocketPart socket n → Is it limits (word.Recv socket n)
-some_recv it limits socket n can =
-    let deadline : ℕ = it.moment + limits.rw in
-    let r : Request = request.Recv (recv_by false socket n deadline) in
-    let fresh : IsFresh (of_socket kind.Recv socket n deadline) r = fresh_recv_by false socket n deadline can.most in (
-      r,
-      assumption (by_deadline kind.Recv socket n it.moment deadline limits (word.Recv socket n) r refl (λ c. refl) fresh, no_cover it (of_socket kind.Recv socket n deadline) r fresh refl),
-    )
-
-some_fill : (it : Sight) (limits : Limits) (socket n : ℕ) → IsSocketPart socket n → Is it limits (word.Fill socket n)
-some_fill it limits socket n can =
-    let deadline : ℕ = it.moment + limits.rw in
-    let r : Request = request.Recv (recv_by true socket n deadline) in
-    let fresh : IsFresh (of_socket kind.Fill socket n deadline) r = fresh_recv_by true socket n deadline can.most in (
-      r,
-      assumption (by_deadline kind.Fill socket n it.moment deadline limits (word.Fill socket n) r refl (λ c. refl) fresh, no_cover it (of_socket kind.Fill socket n deadline) r fresh refl),
-    )
 
 sized_so : (cache : Cache) (n : ℕ) → n ≡ size_for (way_by cache) n
 sized_so Enabled n = refl
@@ -193,25 +144,6 @@ covers_by : (it : Sight) (state : WriteAtState) (file offset n : ℕ) (going : i
 unfolding write_by
 covers_by it state file offset n going can = λ durable. refl
 
-some_read : (it : Sight) (limits : Limits) (file offset n : ℕ) → IsFilePart file offset n → Is it limits (word.Read file offset n)
-some_read it limits file offset n can =
-    let r : Request = request.ReadAt (read_by Enabled file offset n can) in
-    let fresh : IsFresh (of_file kind.Read file offset n) r = fresh_read_by Enabled file offset n can in
-    (r, record { wanted = by_file (of_file kind.Read file offset n) limits it.moment (word.Read file offset n) r (λ c. refl) fresh; covers = no_cover it (of_file kind.Read file offset n) r fresh refl })
-
-some_hint : (it : Sight) (limits : Limits) (file offset n : ℕ) → IsFilePart file offset n → Is it limits (word.Hint file offset n)
-some_hint it limits file offset n can =
-    let r : Request = request.ReadAt (read_by Disabled file offset n can) in
-    let fresh : IsFresh (of_file kind.Hint file offset n) r = fresh_read_by Disabled file offset n can in
-    (r, record { wanted = by_file (of_file kind.Hint file offset n) limits it.moment (word.Hint file offset n) r (λ c. refl) fresh; covers = no_cover it (of_file kind.Hint file offset n) r fresh refl })
-
-some_direct : (it : Sight) (limits : Limits) (file offset n : ℕ) → IsFilePart file offset n → Is it limits (word.Direct file offset n)
-some_direct it limits file offset n can =
-    let o : Operation = range_operation kind.Direct file offset n in
-    let r : Request = request.ReadAt (direct_by file offset n can) in
-    let fresh : IsFresh o r = fresh_direct_by file offset n can in
-    (r, record { wanted = by_file o limits it.moment (word.Direct file offset n) r (λ c. refl) fresh; covers = no_cover it o r fresh refl })
-
 some_write : (it : Sight) (limits : Limits) (w : ScriptWord) (state : WriteAtState) (file offset n : ℕ) → is_syncing state ≡ false → ((c : Configuration) → operation_asked c it.moment w ≡ Some (of_file (write_kind state) file offset n)) → IsFilePart file offset n → Is it limits w
 some_write it limits w state file offset n going asks can =
     let seen : ℕ = (open_at it file).mutations in (
@@ -221,11 +153,11 @@ some_write it limits w state file offset n going asks can =
 
 some_by : (it : Sight) (limits : Limits) (w : ScriptWord) → moves_bytes w ≡ true → CanAsk w → Is it limits w
 some_by it limits (word.Send socket n) moves can = some_send it limits socket n can
-some_by it limits (word.Recv socket n) moves can = some_recv it limits socket n can
-some_by it limits (word.Fill socket n) moves can = some_fill it limits socket n can
-some_by it limits (word.Read file offset n) moves can = some_read it limits file offset n can
-some_by it limits (word.Hint file offset n) moves can = some_hint it limits file offset n can
-some_by it limits (word.Direct file offset n) moves can = some_direct it limits file offset n can
+some_by it limits (word.Recv socket n) moves can = of_peer it limits (word.Recv socket n) kind.Recv socket n _ (λ c. refl) refl (fresh_recv_by false socket n (it.moment + limits.rw) can.most)
+some_by it limits (word.Fill socket n) moves can = of_peer it limits (word.Fill socket n) kind.Fill socket n _ (λ c. refl) refl (fresh_recv_by true socket n (it.moment + limits.rw) can.most)
+some_by it limits (word.Read file offset n) moves can = of_range it limits (word.Read file offset n) _ _ (λ c. refl) refl (fresh_read_by Enabled file offset n can)
+some_by it limits (word.Hint file offset n) moves can = of_range it limits (word.Hint file offset n) _ _ (λ c. refl) refl (fresh_read_by Disabled file offset n can)
+some_by it limits (word.Direct file offset n) moves can = of_range it limits (word.Direct file offset n) _ _ (λ c. refl) refl (fresh_direct_by file offset n can)
 some_by it limits (word.Write file offset n) moves can = some_write it limits (word.Write file offset n) Writing file offset n refl (λ c. refl) can
 some_by it limits (word.Dsync file offset n) moves can = some_write it limits (word.Dsync file offset n) WritingSync file offset n refl (λ c. refl) can
 some_by it limits (word.Many file offset n) moves can = some_write it limits (word.Many file offset n) WritingBeforeSync file offset n refl (λ c. refl) can
@@ -261,5 +193,4 @@ some_request it limits w moves =
 
 -- what is known of a request that was made, together
 pub request_by : (o : Option Request) (it : Sight) (limits : Limits) (w : ScriptWord) → IfSome o (IsWanted limits it.moment w) → IfSome o (CoversSeen it) → IfSome o (IsRequestOf it limits w)
-request_by (Some r) it limits w wanted covers = record { wanted = wanted; covers = covers }
-request_by None it limits w wanted covers = tt
+request_by = grind arith

@@ -1,9 +1,8 @@
 -- What an error of a run, or the status of the program, says.
-use Rattle.std.specs.Prelude.{◌≡◌, ℕ, Bool, ◌⊎◌, List, [], ◌∷◌, ◌++◌, Option, IsSome, String}
-use Rattle.std.specs.declared.alloc.Global.{Global}
+use Rattle.std.specs.{Prelude.{◌≡◌, ℕ, Bool, ◌⊎◌, List, [], ◌∷◌, ◌++◌, Option, IsSome, String}, declared.alloc.Global.Global}
 use Rattle.exec_base.specs.Io.{Rose}
-use Rattle.exec_text.specs.Grammar.{Meaning}
 use Rattle.exec_run.specs.{declared.{complaint.Complaint.Complaint, trace_error.TraceError.{TraceError, TheVariants.{ReadFault, TooLong, Syntax, Config, WriteFault, NoMemory}}}, Refusal.{IsTooLong, HasFault, HasOutOfRange, HasCause, AskForTrace, AskForSomeTrace, status_of, text_of_complaint}, Log.{HasTrace, Gave, GaveFront, GaveLog, BrokeOff}}
+use Rattle.exec_text.specs.Grammar.{Meaning}
 
 -- neither the count of faults of the source rose nor that of the sink
 abbrev pub NoneRose : ℕ → ℕ → ℕ → ℕ → Type 0

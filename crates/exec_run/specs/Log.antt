@@ -1,15 +1,14 @@
 -- What a run wrote: the whole log, or a front of it.
-use Rattle.std.specs.Prelude.{◌≡◌, ℕ, Bool, true, false, ◌≤◌, ◌⊎◌, List, [], ◌∷◌, ◌++◌, Option, None, sum_by}
-use Rattle.std.specs.Io.KnownBytes.{append_known}
+use Rattle.std.specs.{Prelude.{◌≡◌, ℕ, Bool, true, false, ◌≤◌, ◌⊎◌, List, [], ◌∷◌, ◌++◌, Option, None, sum_by}, Io.KnownBytes.append_known}
 use Rattle.exec_base.specs.declared.limits.TheConstants.{MOST_STEPS}
-use Rattle.exec_machine.specs.{declared.{config.Configuration.Configuration, step.{Step.{Step, TheVariants.Work}}}, Run.{RunsBy}, Deadlines.{is_after, next_due, rest_until}, Tests.{is_awake, is_resolved}, World.{World, request_of, seat_of}, Progress.{Plan, RightlyAsleepBy, begin, is_solo, no_stretch}, Text.{text_of_log, told_lines}, Examples.{Told, choices_of, lines_of}}
-use Rattle.exec_text.specs.Grammar.{Meaning, IsTraceOf, count_of}
-use Rattle.exec_run.specs.{Ranges.first_out_of_range, Refusal.IsTextIn}
 use Rattle.exec_core.specs.Turns.{IsOrderly}
+use Rattle.exec_machine.specs.{declared.{config.Configuration.Configuration, step.Step.{Step, TheVariants.Work}}, Run.RunsBy, Deadlines.{is_after, next_due, rest_until}, Tests.{is_awake, is_resolved}, World.{World, request_of, seat_of}, Progress.{Plan, RightlyAsleepBy, begin, is_solo, no_stretch}, Text.{text_of_log, told_lines}, Examples.{Told, choices_of, lines_of}}
 use Rattle.exec_moves.specs.Plays.{Playing, Plays, by_step, first_playing}
 use Rattle.exec_rest.specs.AtRest.{RestsWell}
+use Rattle.exec_run.specs.{Ranges.first_out_of_range, Refusal.IsTextIn}
 use Rattle.exec_settled.specs.{Parked.{NobodySleepsOnWork, NoneIsForgotten}, Settled.HaveLetGo}
 use Rattle.exec_shutdown.specs.Shutdown.{ShutsDown}
+use Rattle.exec_text.specs.Grammar.{Meaning, IsTraceOf, count_of}
 
 -- The source held a trace that says this, which is not too long and whose configuration is in its ranges.
 pub record HasTrace (source : Option (List ℕ)) (m : Meaning) : Type 0 where

@@ -1,8 +1,8 @@
 -- What the functions that read and check a trace do.
 use Rattle.std.specs.Prelude.{◌≡◌, ℕ, ◌+◌, ◌<◌, ◌≤◌, List, [], ◌++◌, Option, Some, None, IfSome, length, sum_by}
-use Rattle.exec_text.specs.{declared.trace.Trace.Trace, Grammar.{Meaning, IsTraceOf, IsTrace, IsFirstFault, count_of, meaning_of}}
-use Rattle.exec_run.specs.{Ranges.first_out_of_range, declared.trace_error.TraceError.{TraceError, TheVariants.{ReadFault, TooLong, Syntax, Config, WriteFault, NoMemory}}, Refusal.{HasTooManyBytes, IsOutOfRange}}
 use Rattle.exec_base.specs.{declared.limits.TheConstants.MOST_STEPS, Io.Rose}
+use Rattle.exec_run.specs.{Ranges.first_out_of_range, declared.trace_error.TraceError.{TraceError, TheVariants.{ReadFault, TooLong, Syntax, Config, WriteFault, NoMemory}}, Refusal.{HasTooManyBytes, IsOutOfRange}}
+use Rattle.exec_text.specs.{declared.trace.Trace.Trace, Grammar.{Meaning, IsTraceOf, IsTrace, IsFirstFault, count_of, meaning_of}}
 
 -- what a source had left is what it has left behind these bytes
 abbrev pub HasRead : Option (List ℕ) → Option (List ℕ) → List ℕ → Type 0

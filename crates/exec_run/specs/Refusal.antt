@@ -1,7 +1,5 @@
 -- Why a run is refused before its first step, and how that is written.
-use Rattle.std.specs.Prelude.{◌≡◌, ℕ, Bool, true, false, ◌+◌, ◌^◌, ◌<◌, ◌≤◌, ◌⊎◌, List, [], ◌∷◌, ◌++◌, Option, Some, IfSome, String, string_bytes, drop, map, length, sum_by, codes}
-use Rattle.std.specs.Fmt.{decimal}
-use Rattle.std.specs.declared.alloc.Global.{Global}
+use Rattle.std.specs.{Prelude.{◌≡◌, ℕ, Bool, true, false, ◌+◌, ◌^◌, ◌<◌, ◌≤◌, ◌⊎◌, List, [], ◌∷◌, ◌++◌, Option, Some, IfSome, String, string_bytes, drop, map, length, sum_by, codes}, Fmt.decimal, declared.alloc.Global.Global}
 use Rattle.exec_base.specs.{declared.limits.TheConstants.MOST_STEPS, Io.Rose}
 use Rattle.exec_run.specs.{declared.{field.OutOfRange.OutOfRange, complaint.Complaint.{Complaint, TheVariants.{Usage, ReadFault, TooLong, Syntax, Config}}}, Ranges.{first_out_of_range, text_of_field}}
 use Rattle.exec_text.specs.Grammar.{Meaning, IsTraceOf, IsFirstFault, count_of}

@@ -1,28 +1,21 @@
 -- A body does what its script says.
 use Rattle.std.proofs.Common.{◌≡◌, ℕ, zero, suc, ◌+◌, ◌%◌, ◌<◌, ◌≤◌, ◌^◌, Bool, true, false, List, [], ◌∷◌, All, drop, length, map, Option, Some, None, refl, sym, ap, subst, ◌∙◌, arith, slice_index_or}
-use Rattle.std.proofs.lemmas.Bool.{true≢false}
-use Rattle.std.specs.Prelude.{if◌then◌else◌}
-use Rattle.std.proofs.lemmas.List.{get_or-drop}
-use Rattle.std.proofs.lemmas.Option.{none-some}
-use Rattle.std.proofs.lemmas.List.Elements.{All-tail}
-use Rattle.exec_base.specs.declared.{error.Error.TheVariants.NoMemory}
+use Rattle.std.{proofs.lemmas.{Bool.true≢false, List.{get_or-drop, Elements.All-tail}, Option.none-some}, specs.Prelude.if◌then◌else◌}
+use Rattle.exec_base.specs.declared.error.Error.TheVariants.{NoMemory}
+use Rattle.exec_machine.specs.{declared.{config.{Configuration.Configuration, ScriptWord.ScriptWord}, state.Code.{Code, TheVariants.{Root, Script, Waits}}}, World.{Task, Common, Open, no_open}, Tests.is_empty, Words.{is_idle_word, idle_words, words_left, next_word, moved_on}, Progress.Plan}
 use Rattle.exec_outcomes.specs.Accounts.{Account, fresh_account}
+use Rattle.exec_parts.specs.{Spots.{Spot, standing_at, spot_of}, Scripts.{Asks, Covers, IsAnswer, IsAnswered, IsBorn, IsCodeOf, IsNamed, IsSeen, MakesBody, MayRunScript, is_last, held_after, StepPlays, Plays}}
 use Rattle.exec_request.specs.Requests.{target_of}
+use Rattle.exec_run.specs.{declared.script.Asked.Asked, Asking.IsInTime, Script.{Played, Begets, CanPlay, CoversBy, IsNumbered, IsProgram, held_by, held_told, itself, name_of, number_of, place_after, place_by, place_in, script_begun, spot_told, is_passed, passed_over, word_at, word_in, word_of_wait, words_of, asked_by, StepsTo, gives, Runs}}
 use Rattle.exec_task.specs.{Sight.Sight, declared.body.{Act.Act, Said.Said}}
 use Rattle.exec_task.specs.declared.body.Act.TheVariants as act
 use Rattle.exec_task.specs.declared.body.Said.TheVariants as said
-use Rattle.exec_machine.specs.{declared.{config.{Configuration.Configuration, ScriptWord.ScriptWord}, state.{Code.{Code, TheVariants.{Root, Script, Waits}}}}, World.{Task, Common, Open, no_open}, Tests.is_empty, Words.{is_idle_word, idle_words, words_left, next_word, moved_on}, Progress.Plan}
 use Rattle.exec_machine.specs.declared.config.ScriptWord.TheVariants as word
-use Rattle.exec_parts.specs.{Spots.{Spot, standing_at, spot_of}, Scripts.{Asks, Covers, IsAnswer, IsAnswered, IsBorn, IsCodeOf, IsNamed, IsSeen, MakesBody, MayRunScript, is_last, held_after, StepPlays, Plays}}
-use Rattle.exec_run.specs.{declared.script.Asked.Asked, Asking.IsInTime, Script.{Played, Begets, CanPlay, CoversBy, IsNumbered, IsProgram, held_by, held_told, itself, name_of, number_of, place_after, place_by, place_in, script_begun, spot_told, is_passed, passed_over, word_at, word_in, word_of_wait, words_of, asked_by, StepsTo, gives, Runs}}
-use Rattle.exec_run.specs.declared.script.Asked.TheVariants as asked
 
 -- THE NEXT WORD
 
 idle_word : (s : Common) (t : Task) (w : ScriptWord) → is_idle_word s t w ≡ is_passed (is_empty t.held) (length s.tasks) w
-idle_word s t word.Drop = refl
-idle_word s t (word.Wake other) = refl
-idle_word s t _ = refl
+idle_word = grind arith
 
 idle_all : (s : Common) (t : Task) (words : List ScriptWord) → idle_words s t words ≡ passed_over (is_empty t.held) (length s.tasks) words
 idle_all s t [] = refl
@@ -31,18 +24,14 @@ idle_all s t (w ∷ words) = rw (idle_word s t w, idle_all s t words) refl
 -- of a task that has these words left
 next_in : (s : Common) (t : Task) (words : List ScriptWord) (place : ℕ) → words_left s t ≡ drop place words
     → next_word s t ≡ word_at words (place + passed_over (is_empty t.held) (length s.tasks) (drop place words))
-next_in s t words place left =
-    ap (λ (xs : List ScriptWord). slice_index_or xs (idle_words s t xs) word.End) left
-    ∙ ap (λ (k : ℕ). slice_index_or (drop place words) k word.End) (idle_all s t (drop place words))
-    ∙ get_or-drop place words (passed_over (is_empty t.held) (length s.tasks) (drop place words)) word.End
+next_in = grind (arith, idle_all, get_or-drop)
 
 -- a task that is at this place of its script, and holds these
 abbrev at_place : Code → ℕ → List ℕ → Task → Task
 at_place c place held u = record (standing_at (let at : Spot = record { code = c; place = place_in c place; adapters = []; call = None } in at) u) { held = held }
 
 wait_passes : (s : Common) (t : Task) (b : Bool) → idle_words s t (word_of_wait b ∷ []) ≡ 0
-wait_passes s t true = refl
-wait_passes s t false = refl
+wait_passes = grind arith
 
 next_is : (c : Code) (p : Plan) (s : Common) (words : List ScriptWord) (place : ℕ) (held : List ℕ) (u : Task) → words ≡ words_of c p → s.scripts ≡ p.scripts → s.root ≡ p.root
     → next_word s (at_place c place held u) ≡ word_in c words s.stopped (place + passed_over (is_empty held) (length s.tasks) (drop place words))
@@ -58,14 +47,9 @@ can_play_at many [] (suc n) can = tt
 can_play_at many (w ∷ words) zero can = can 0 w (omega arith)
 can_play_at many (w ∷ words) (suc n) can = can_play_at many words n (All-tail (CanPlay many) w words can)
 
-can_wait : (many : ℕ) (b : Bool) → CanPlay many (word_of_wait b)
-can_wait many true = tt
-can_wait many false = tt
-
 can_play_in : (c : Code) (many : ℕ) (words : List ScriptWord) (stopped : Bool) (n : ℕ) → All (CanPlay many) words → CanPlay many (word_in c words stopped n)
-can_play_in Root many words stopped n can = can_play_at many words n can
-can_play_in (Script k) many words stopped n can = can_play_at many words n can
-can_play_in Waits many words stopped n can = can_wait many stopped
+can_play_in Waits many words stopped n can = grind arith
+can_play_in c many words stopped n can = can_play_at many words n can
 
 words_play : (many : ℕ) (scripts : List (List ScriptWord)) (k : ℕ) → All (All (CanPlay many)) scripts → All (CanPlay many) (slice_index_or scripts k [])
 words_play many [] zero can = λ i d l. absurd (let none : i < 0 = l in omega arith)
@@ -77,16 +61,7 @@ words_play many (ws ∷ scripts) (suc k) can = words_play many scripts k (All-ta
 
 -- past its words a script ends
 at_the_end : (c : Configuration) (moment : ℕ) (held : List ℕ) (a : Act Played) → Asks c moment held word.End a → is_last a ≡ true
-at_the_end c moment held (act.Register r) asks = absurd (none-some _ asks.2)
-at_the_end c moment held (act.Await r) asks = absurd (cc)
-at_the_end c moment held (act.Drop r) asks = absurd (cc)
-at_the_end c moment held (act.Sleep time) asks = absurd (cc)
-at_the_end c moment held act.Yield asks = absurd (cc)
-at_the_end c moment held (act.Done n) asks = refl
-at_the_end c moment held (act.Fault n) asks = refl
-at_the_end c moment held (act.Spawn b) asks = absurd (cc asks.1)
-at_the_end c moment held (act.Dedicated b) asks = absurd (cc asks.1)
-at_the_end c moment held (act.Wake t) asks = absurd (cc)
+at_the_end = grind (arith, none-some)
 
 -- a body that isn't through is not past its words
 inside : (c : Configuration) (moment : ℕ) (held : List ℕ) (words : List ScriptWord) (n : ℕ) (a : Act Played) → Asks c moment held (word_at words n) a → is_last a ≡ false → n < length words
@@ -105,15 +80,7 @@ account_at (o ∷ opens) (suc file) = account_at opens file
 covers_so : (s : Common) (it : Sight) (a : Act Played) → it.opens ≡ map (λ o. o.account) s.opens → CoversBy it a → Covers s a
 covers_so s it (act.Register r) same covers =
     λ durable. covers durable ∙ ap (λ (x : Account). x.mutations) (ap (λ xs. slice_index_or xs (target_of r) fresh_account) same ∙ account_at s.opens (target_of r))
-covers_so s it (act.Await r) same covers = tt
-covers_so s it (act.Drop r) same covers = tt
-covers_so s it (act.Sleep time) same covers = tt
-covers_so s it (act.Spawn b) same covers = tt
-covers_so s it (act.Dedicated b) same covers = tt
-covers_so s it (act.Wake t) same covers = tt
-covers_so s it act.Yield same covers = tt
-covers_so s it (act.Done n) same covers = tt
-covers_so s it (act.Fault n) same covers = tt
+covers_so s it a same covers = tt
 
 -- WHERE IT STANDS, AND WHAT IT HOLDS
 
@@ -122,58 +89,25 @@ abbrev at_spot : Code → ℕ → Spot
 at_spot c place = record { code = c; place = place_in c place; adapters = []; call = None }
 
 pub script_answered : IsAnswered spot_told
-script_answered l answer other = ap (at_spot l.code) (elsewhere l.asked l.place l.before answer other)
-  where
-    elsewhere : (q : Asked) (place before : ℕ) (answer : Said) → (answer ≡ said.Refused NoMemory → ⊥) → place_after q place before (Some answer) ≡ place_after q place before None
-    elsewhere asked.Ending place before answer other = refl
-    elsewhere q place before (said.Refused NoMemory) other = absurd (other refl)
-    elsewhere q place before answer other = refl
+script_answered = grind (arith)
 
 heard : (a : Act Played) (answer : Said) (q : Asked) (held : List ℕ) → IsAnswer a answer → q ≡ asked_by a → held_by q held answer ≡ held_after a answer held
-heard (act.Register r) (said.Admitted n) q held is kind = rw kind refl
-heard (act.Await (Some r)) (said.Output output) q held is kind = rw kind refl
-heard (act.Drop r) said.Pass q held is kind = rw kind refl
-heard (act.Sleep time) said.Slept q held is kind = rw kind refl
-heard (act.Spawn b) (said.Spawned n) q held is kind = rw kind refl
-heard (act.Spawn b) (said.Refused e) q held is kind = rw kind refl
-heard (act.Dedicated b) (said.Spawned n) q held is kind = rw kind refl
-heard (act.Dedicated b) (said.Refused e) q held is kind = rw kind refl
-heard (act.Await None) said.Pass q held is kind = rw kind refl
-heard (act.Await (Some r)) said.Pass q held is kind = rw kind refl
-heard a said.Pass q held is kind = rw kind refl
-heard (act.Await None) answer q held is kind = absurd is
-heard (act.Await (Some r)) answer q held is kind = absurd is
-heard a answer q held is kind = absurd is
+heard = grind arith
 
 unheard : (q : Asked) (held : List ℕ) → held_by q held (said.Refused NoMemory) ≡ held
-unheard asked.Request held = refl
-unheard asked.LettingGo held = refl
-unheard asked.Ending held = refl
-unheard asked.Other held = refl
+unheard = grind arith
 
 -- where it stands by itself after this act
 place_alone : (a : Act Played) (place before : ℕ) → place_after (asked_by a) place before None ≡ (if is_last a then before else place)
-place_alone (act.Register r) place before = refl
-place_alone (act.Drop r) place before = refl
-place_alone (act.Done n) place before = refl
-place_alone (act.Fault n) place before = refl
-place_alone a place before = refl
+place_alone = grind arith
 
 place_refused : (a : Act Played) (place before : ℕ) → place_after (asked_by a) place before (Some (said.Refused NoMemory)) ≡ before
-place_refused (act.Register r) place before = refl
-place_refused (act.Drop r) place before = refl
-place_refused (act.Done n) place before = refl
-place_refused (act.Fault n) place before = refl
-place_refused a place before = refl
+place_refused = grind arith
 
 -- it stands where the machine's task does, once that is past its word
 stands_on : (c : Code) (s : Common) (words : List ScriptWord) (place next : ℕ) (held : List ℕ) (u : Task) → words_left s (at_place c place held u) ≡ drop place words
     → next ≡ place + passed_over (is_empty held) (length s.tasks) (drop place words) + 1 → at_spot c next ≡ spot_of (moved_on s (at_place c place held u))
-stands_on Root s words place next held u left is =
-    ap (at_spot Root) (is ∙ ap (λ k. place + k + 1) (sym (ap (idle_words s (at_place Root place held u)) left ∙ idle_all s (at_place Root place held u) (drop place words))))
-stands_on (Script k) s words place next held u left is =
-    ap (at_spot (Script k)) (is ∙ ap (λ k. place + k + 1) (sym (ap (idle_words s (at_place (Script k) place held u)) left ∙ idle_all s (at_place (Script k) place held u) (drop place words))))
-stands_on Waits s words place next held u left is = refl
+stands_on = grind (arith, idle_all)
 
 -- ITS LAW
 
@@ -200,9 +134,7 @@ stands_by c p s words place next held u moment many a it false is = stands_past 
 
 -- the body that it makes
 script_code : (workers k : ℕ) (home : Option ℕ) → MayRunScript workers home → IsCodeOf workers home (Script k)
-script_code workers k None may = (k, refl)
-script_code workers k (Some zero) may = absurd may
-script_code workers k (Some (suc i)) may = (λ l. let far : workers ≤ suc i = may in absurd (omega (arith, l, far)), λ l. (k, refl))
+script_code = grind arith
 
 pub born : (p : Plan) (l : Played) (k : ℕ) → IsProgram l.scripts l.limits p → k < length p.scripts → IsBorn Runs held_told spot_told p k (script_begun l.scripts l.limits k)
 born p l k program within = record {
@@ -222,14 +154,7 @@ makes_body p l w (act.Spawn b) program can begets =
     λ k is. subst (λ (x : Played). IsBorn Runs held_told spot_told p k x) (sym (begets k is)) (born p l k program (subst (CanPlay (length p.scripts)) is can))
 makes_body p l w (act.Dedicated b) program can begets =
     λ k is. subst (λ (x : Played). IsBorn Runs held_told spot_told p k x) (sym (begets k is)) (born p l k program (subst (CanPlay (length p.scripts)) is can))
-makes_body p l w (act.Register r) program can begets = tt
-makes_body p l w (act.Await r) program can begets = tt
-makes_body p l w (act.Drop r) program can begets = tt
-makes_body p l w (act.Sleep time) program can begets = tt
-makes_body p l w act.Yield program can begets = tt
-makes_body p l w (act.Done n) program can begets = tt
-makes_body p l w (act.Fault n) program can begets = tt
-makes_body p l w (act.Wake t) program can begets = tt
+makes_body p l w a program can begets = tt
 
 plays_at : (p : Plan) (s : Common) (u : Task) (it : Sight) (l l' : Played) (told : Said) (a : Act Played) → Runs l p u.home → s.scripts ≡ p.scripts → s.root ≡ p.root → IsSeen it s → StepsTo l it told a l'
     → StepPlays itself Runs held_told spot_told gives p s (at_place l.code (place_by l told) (held_by l.asked l.held told) u) it.moment a l'

@@ -1,14 +1,14 @@
 -- What the functions that take the steps of a trace do.
 use Rattle.std.specs.Prelude.{◌≡◌, ℕ, Bool, ◌+◌, ◌⊎◌, List, [], ◌∷◌, ◌++◌, Option, Some}
 use Rattle.exec_base.specs.Io.{Rose}
-use Rattle.exec_task.specs.declared.body.Said.{Said}
+use Rattle.exec_core.specs.{declared.executor.Core.Core, Lift.{IsReady, Shows}, Steady.{IsSteady, IsSteadyThere, KeepsOn}, Turns.IsOrderly}
 use Rattle.exec_machine.specs.{declared.{event.Line.Line, step.{Step.Step, Action.Action}}, Run.{Follows, after_work, after_steps}, Progress.Plan, Examples.{Told, lines_of}, Text.{text_of_line, text_of_log, told_lines}}
 use Rattle.exec_moves.specs.{Plays.{Playing, by_step}, Departures.played}
-use Rattle.exec_progress.specs.Paced.{IsPaced}
 use Rattle.exec_parts.specs.Spots.{Spot}
-use Rattle.exec_core.specs.{declared.executor.Core.Core, Lift.{IsReady, Shows}, Steady.{IsSteady, IsSteadyThere, KeepsOn}, Turns.IsOrderly}
-use Rattle.exec_text.specs.Grammar.{Meaning}
+use Rattle.exec_progress.specs.Paced.{IsPaced}
 use Rattle.exec_run.specs.{declared.{trace_error.TraceError.{TraceError, TheVariants.{ReadFault, TooLong, Syntax, Config, WriteFault, NoMemory}}, complaint.Complaint.Complaint}, Refusal.status_of, Explains.complaint_line, Log.{Gave, GaveFront, GaveFrontOfLog, AreTaken, told_text}}
+use Rattle.exec_task.specs.declared.body.Said.{Said}
+use Rattle.exec_text.specs.Grammar.{Meaning}
 
 -- why a run broke off: the sink failed, or it did not and there was no memory
 abbrev pub BrokeBy : TraceError → ℕ → ℕ → Type 0

@@ -35,6 +35,7 @@ pub struct Limits {
 }
 
 /// The request that a word asks for at the moment that is seen, if it asks for one.
+#[tactic(auto, using(crate::proofs::Wanted::request_by))]
 pub(crate) fn request_of<A: Around>(
     alloc: Global,
     around: &A,

@@ -23,6 +23,7 @@ pub(crate) fn word_of_wait(stopped: bool) -> ScriptWord
 }
 
 /// The number of the first word from this one on that asks for something, where a script holds something or nothing.
+#[tactic(auto, using(crate::proofs::Acts::goes_on))]
 pub(crate) fn next_place<A: Around>(
     words: &[ScriptWord],
     holds: bool,

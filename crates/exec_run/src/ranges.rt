@@ -50,21 +50,13 @@ fn tested_parts(config: Configuration) -> [(Field, u64, bool); 10]
         (
             Field::Workers,
             workers as u64,
-            is_within(1, MOST_WORKERS as u64, workers as u64),
+            up_to(MOST_WORKERS as u64, workers as u64),
         ),
-        (
-            Field::Interval,
-            interval,
-            is_within(1, MOST_COUNT, interval),
-        ),
-        (Field::Ring, ring, is_within(1, MOST_OPERATIONS, ring)),
-        (Field::Tick, tick, is_within(1, LONGEST_TIMEOUT, tick)),
-        (
-            Field::Connect,
-            connect,
-            is_within(1, LONGEST_TIMEOUT, connect),
-        ),
-        (Field::Rw, rw, is_within(1, LONGEST_TIMEOUT, rw)),
+        (Field::Interval, interval, up_to(MOST_COUNT, interval)),
+        (Field::Ring, ring, up_to(MOST_OPERATIONS, ring)),
+        (Field::Tick, tick, up_to(LONGEST_TIMEOUT, tick)),
+        (Field::Connect, connect, up_to(LONGEST_TIMEOUT, connect)),
+        (Field::Rw, rw, up_to(LONGEST_TIMEOUT, rw)),
         (Field::Spin, spin.budget, is_spin(spin)),
         (Field::Files, files, files <= MOST_FILES),
         (Field::Sockets, sockets, sockets <= MOST_SOCKETS),
@@ -76,11 +68,11 @@ fn tested_parts(config: Configuration) -> [(Field, u64, bool); 10]
     ]
 }
 
-/// Whether the number is neither below the least nor above the most.
-fn is_within(least: u64, most: u64, number: u64) -> bool
-    ensures { result ≡ is_within least most number }
+/// Whether the number is neither below 1 nor above the most.
+fn up_to(most: u64, number: u64) -> bool
+    ensures { result ≡ is_within 1 most number }
 {
-    least <= number && number <= most
+    1 <= number && number <= most
 }
 
 /// Whether the first budget is no larger than the largest, and each number is a count.

@@ -33,8 +33,7 @@ fn read_piece<I: Input>(
     ensures count { I.faults source.old ≤ I.faults source.new }
     ensures well { OnOk result (I.faults source.new ≡ I.faults source.old) }
     ensures within { IfOk result (λ count. count ≤ length buffer.old) }
-    ensures read { IfOk result (ReadsPiece (I.left source.old) (I.left source.new)
-        text.old.items text.new.items) }
+    ensures read { IfOk result (ReadsPiece (I.left source.old) (I.left source.new) text.old.items text.new.items) }
     ensures taken { TakesWithin (length buffer.old) (I.left source.old) (I.left source.new) }
     ensures err { IfErr result (λ e. CannotTake e (I.faults source.old) (I.faults source.new)) }
 {
@@ -53,8 +52,7 @@ pub fn read_all<I: Input>(alloc: Global, source: &mut I) -> Result<Vec<u8>, Trac
     ensures well { OnOk result (I.faults source.new ≡ I.faults source.old) }
     ensures to_end { OnOk result (IfSome (I.left source.old) (λ _. I.left source.new ≡ Some [])) }
     ensures few { TakesWithin (most_bytes + 1) (I.left source.old) (I.left source.new) }
-    ensures err { IfErr result (λ e. CannotRead e (I.left source.old)
-        (I.faults source.old) (I.faults source.new)) }
+    ensures err { IfErr result (λ e. CannotRead e (I.left source.old) (I.faults source.old) (I.faults source.new)) }
 {
     let mut buffer = [0; PIECE];
     let mut text = Vec::new(alloc);

@@ -55,8 +55,7 @@ pub fn run_trace<I: Input, O: Output>(
     ensures err { IfErr result (λ e. IsCauseOf e (I.left source.old)
         (I.faults source.old) (I.faults source.new) (O.faults sink.old) (O.faults sink.new)) }
     // What was given up to an error is nothing or a front of a log.
-    ensures given { IfErr result (λ e. IsGivenAt quiet e (I.left source.old)
-        (O.given sink.old) (O.given sink.new)) }
+    ensures given { IfErr result (λ e. IsGivenAt quiet e (I.left source.old) (O.given sink.old) (O.given sink.new)) }
 {
     let text = read_all(alloc, source)?;
     let trace = check(alloc, text.as_slice())?;
@@ -64,6 +63,7 @@ pub fn run_trace<I: Input, O: Output>(
 }
 
 /// Whether the log is to be quiet, where the words ask for the run of a trace.
+#[tactic(auto, using(crate::proofs::RunLemmas::one_word, crate::proofs::RunLemmas::two_words))]
 fn asked_quiet(words: &[String]) -> Option<bool>
     ensures some { IfSome result (λ quiet. AskForTrace quiet words.now) }
     ensures none { IfNone result (AskForSomeTrace words.now → ⊥) }

@@ -7,13 +7,12 @@
 //! for a wake again and again, until the pool is stopped.
 
 ghost use Rattle.std.specs.Prelude.{◌≡◌, ◌≢◌, ℕ, ◌+◌, ◌<◌, ◌≤◌, ◌^◌, false, is_some, IsTrue, [], length, vec_capacity, Some, IfSome, IfNone, OnOk, OnErr};
-ghost use Rattle.exec_machine.specs.declared.state.Code.TheVariants as code;
 ghost use Rattle.exec_machine.specs.{Progress.Plan, Tasks.without_newest};
-ghost use Rattle.exec_run.specs.declared.script.Asked.TheVariants as question;
-ghost use Rattle.exec_run.specs.Script.{begun, held_by, place_by, newest, script_begun, word_in, word_of_wait, words_of_all, asked_by, CanPlay, IsProgram, IsPlainActOf};
-ghost use Rattle.exec_run.specs.Asking.{asks_request};
 ghost use Rattle.exec_parts.specs.Scripts.{IsBorn};
+ghost use Rattle.exec_run.specs.{Script.{begun, held_by, place_by, newest, script_begun, word_in, word_of_wait, words_of_all, asked_by, CanPlay, IsProgram, IsPlainActOf}, Asking.asks_request};
 ghost use Rattle.exec_task.specs.{declared.body.Act.TheVariants.{Dedicated, Register, Spawn, Wake}, Sight.Sight};
+ghost use Rattle.exec_machine.specs.declared.state.Code.TheVariants as code;
+ghost use Rattle.exec_run.specs.declared.script.Asked.TheVariants as question;
 
 use crate::asking::{Limits, request_of};
 use crate::passing::{next_place, place_past, word_of, word_of_wait};
@@ -93,8 +92,7 @@ pub struct Script<'a> {
 
 impl<'a> Model for Script<'a> {
     ghost use Rattle.std.specs.Prelude.{◌≡◌, ◌<◌, length, vec_capacity};
-    ghost use Rattle.exec_run.specs.declared.script.Asked.TheVariants.{Request};
-    ghost use Rattle.exec_run.specs.Script.{Played, words_of_all};
+    ghost use Rattle.exec_run.specs.{declared.script.Asked.TheVariants.Request, Script.{Played, words_of_all}};
 
     ghost Value = { Played };
 
@@ -302,8 +300,7 @@ fn dedicated_of<'a>(alloc: Global, script: usize, program: Program<'a>) -> Act<S
 }
 
 impl<'a> Scripted for Script<'a> {
-    ghost use Rattle.exec_run.specs.Script.{Runs, spot_told, held_told};
-    ghost use Rattle.exec_run.specs.ScriptPlays.{script_answered, script_named, script_plays};
+    ghost use Rattle.exec_run.specs.{Script.{Runs, spot_told, held_told}, ScriptPlays.{script_answered, script_named, script_plays}};
 
     ghost runs = { Runs };
 
@@ -349,6 +346,7 @@ impl<'a> Body for Script<'a> {
             return Err(said);
         };
         let Ok(()) = make_room(&mut self.held, request.is_some()) else {
+            // Let go by a call, so that its drop is proved once (docs/DECISIONS.md, 49).
             drop(request);
             return Err(said);
         };

@@ -71,6 +71,7 @@ fn take_line<B: Scripted + Drop, S: Scripts<B>, O: Output>(
 }
 
 /// Takes so many steps of the worker, or as many as there are up to the first that is refused.
+#[tactic(auto, using(crate::proofs::StepLemmas::works_none))]
 fn take_work<B: Scripted + Drop, S: Scripts<B>, O: Output>(
     alloc: Global,
     core: &mut Core<B>,
@@ -137,6 +138,7 @@ fn take_step<B: Scripted + Drop, S: Scripts<B>, O: Output>(
 }
 
 /// Takes the steps of all lines, in order.
+#[tactic(auto, using(crate::proofs::StepLemmas::leads_none))]
 fn take_steps<B: Scripted + Drop, S: Scripts<B>, O: Output>(
     alloc: Global,
     core: &mut Core<B>,
@@ -225,6 +227,7 @@ pub fn log_trace<O: Output>(
     let mut core = Core::new(alloc, &config, spin.iterations, files, sockets, roots)?;
     let steps = trace.steps.as_slice();
     let taken = take_steps(alloc, &mut core, &program, sink, quiet, steps);
+    // Let go by a call, so that its drop is proved once (docs/DECISIONS.md, 49).
     drop(core);
     taken?;
     flush_all(sink)

@@ -50,6 +50,7 @@ fn text_of(alloc: Global, line: Line) -> Result<String, AllocError>
 }
 
 /// Gives the line and a line feed.
+#[tactic(auto, using(crate::proofs::StepLemmas::on_err, crate::proofs::StepLemmas::no_front))]
 fn give_line<O: Output>(alloc: Global, sink: &mut O, line: Line) -> Result<(), TraceError>
     ensures count { O.faults sink.old ≤ O.faults sink.new }
     ensures well { OnOk result (O.faults sink.new ≡ O.faults sink.old) }
@@ -83,11 +84,9 @@ pub fn tell_line<O: Output>(
 ) -> Result<(), TraceError>
     ensures count { O.faults sink.old ≤ O.faults sink.new }
     ensures well { OnOk result (O.faults sink.new ≡ O.faults sink.old) }
-    ensures ok { OnOk result
-        (Gave (O.given sink.old) (O.given sink.new) (told_of_line quiet line)) }
+    ensures ok { OnOk result (Gave (O.given sink.old) (O.given sink.new) (told_of_line quiet line)) }
     ensures why { IfErr result (λ e. BrokeBy e (O.faults sink.old) (O.faults sink.new)) }
-    ensures front { OnErr result
-        (GaveFront (O.given sink.old) (O.given sink.new) (told_of_line quiet line)) }
+    ensures front { OnErr result (GaveFront (O.given sink.old) (O.given sink.new) (told_of_line quiet line)) }
 {
     if quiet && is_quiet(line) {
         return Ok(());
@@ -110,13 +109,13 @@ pub fn flush_all<O: Output>(sink: &mut O) -> Result<(), TraceError>
 }
 
 /// Gives the line of the complaint and nothing after it, and passes it on.
+#[tactic(auto, using(crate::proofs::StepLemmas::on_err, crate::proofs::StepLemmas::whole_front))]
 pub fn give_complaint<O: Output>(sink: &mut O, complaint: Complaint) -> Result<(), Failed>
     ensures well { OnOk result (O.faults sink.new ≡ O.faults sink.old) }
     ensures ok { OnOk result (Gave (O.given sink.old) (O.given sink.new) (complaint_line complaint)) }
     ensures passes { OnOk result (O.passed sink.new ≡ O.given sink.new) }
     ensures failed { OnErr result (Rose (O.faults sink.old) (O.faults sink.new)) }
-    ensures front { OnErr result
-        (GaveFront (O.given sink.old) (O.given sink.new) (complaint_line complaint)) }
+    ensures front { OnErr result (GaveFront (O.given sink.old) (O.given sink.new) (complaint_line complaint)) }
 {
     give_all(sink, complaint.line().as_str().as_bytes())?;
     sink.flush()

@@ -93,12 +93,14 @@ fn make_dedicated<B: Drop>(
         shared.clock,
         &mut shared.store,
     ) else {
+        // Let go by a call, so that its drop is proved once (docs/DECISIONS.md, 49).
         drop(slot);
         drop(seat);
         return Err(AllocError);
     };
     shared.tasks.push_reserved(slot);
     shared.seats.push_reserved(seat);
+    // Let go by a call, so that its drop is proved once (docs/DECISIONS.md, 49).
     drop(nursery.born.replace(born));
     Ok(number)
 }

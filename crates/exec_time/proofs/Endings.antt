@@ -1,11 +1,11 @@
 -- What an ended sleeper leaves.
 use Rattle.std.proofs.Common.{◌≡◌, ℕ, ◌+◌, ◌≤◌, Bool, cond, length, Option, Some, None, Result, refl, ap, arith, inl, inr, length-append, unwrap_or}
 use Rattle.std.proofs.lemmas.Grind.{common_steps}
-use Rattle.std.proofs.lemmas.Bool.{cases_lt, cases_eq, le-leb, lt-leb}
+use Rattle.std.proofs.lemmas.Bool.{cases_lt, le-leb, lt-leb}
 use Rattle.std.proofs.lemmas.List.Sums.{sum_by-set}
 use Rattle.exec_base.specs.{Slab.{Slab, value_at, value_in, slot_at, is_live, live_count, removed, freed}, declared.{error.Error.Error, slab.{Id.Id, Slot.{Slot, TheVariants.{Live, Vacant, Retired}}}}}
 use Rattle.exec_time.specs.{declared.{notes.Notes.Notes, timers.{Sleeper.Sleeper, Observer.{Observer, TheVariants.{Local, Forwarded}}}}, Notes.HasRoom, Sleepers.{Ends, IsDue, IsFirst, left_at, wakes_of, completions_of}}
-use Rattle.exec_time.proofs.Sleepers.{none_past}
+use Rattle.exec_time.proofs.Sleepers.{same_or_not, none_past}
 
 abbrev one_if : Bool → ℕ
 one_if b = cond b 1 0
@@ -48,14 +48,9 @@ module _ {S : Type 0} where
   -- where it was due, as much is left at that moment as was before
   pub left_same : (now : ℕ) (old new : Slab (Sleeper S)) (after before : Notes S) (id : Id) (r : Result (Unit {0}) Error) → Ends old new after before id r → ((s : Sleeper S) → value_at old id ≡ Some s → s.deadline ≤ now) → (other : Id) → left_at now (value_at new other) ≡ left_at now (value_at old other)
   left_same now old new after before id r e due other =
-      elim (cases_eq other.index id.index) [
-        | inl index ↦ elim (cases_eq other.generation id.generation) [
-          | inl generation ↦
-              let same : other ≡ id = λ i. record { index = index i; generation = generation i } in
-              rw (same, e.gone.changed, e.was, le-leb _ _ (due e.sleeper e.was)) refl
-          | inr differs ↦ rw (e.gone.others other (λ same. differs (ap (λ (x : Id). x.generation) same))) refl
-        ]
-        | inr differs ↦ rw (e.gone.others other (λ same. differs (ap (λ (x : Id). x.index) same))) refl
+      elim (same_or_not other id) [
+        | inl same ↦ rw (same, e.gone.changed, e.was, le-leb _ _ (due e.sleeper e.was)) refl
+        | inr differs ↦ rw (e.gone.others other differs) refl
       ]
 
   -- the first is due where its deadline is

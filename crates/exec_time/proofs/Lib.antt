@@ -5,5 +5,6 @@ pub mod Turns
 pub mod Passes
 pub mod Sizes
 pub mod Sleepers
+pub mod Index
 pub mod Endings
 pub mod Stale

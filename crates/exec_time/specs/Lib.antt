@@ -5,7 +5,7 @@ pub mod Turning
 pub mod WheelView
 pub mod Notes
 pub mod Sleepers
-pub mod Firsts
+pub mod Index
 pub mod Sleep
 pub mod WheelExamples
 pub mod SleepExamples

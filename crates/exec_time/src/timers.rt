@@ -5,17 +5,23 @@
 //! id of a sleeper that fired or was cancelled is told so, or changes nothing. Sleepers fire by deadline, and
 //! those of one deadline by id. What is to be told goes into `Notes`, for which the caller has made room. Only
 //! `insert` takes memory. Moments are in nanoseconds.
+//!
+//! The sleepers are in a slab, by id. An index beside it has their deadlines in the order in which they fire, so the
+//! first one, for which a worker asks again and again, is found without a look at the others. Who closes one after
+//! another begins each time at the slot of the last one, and so passes each slot once. A contract sees the slab alone;
+//! that the index has each sleeper and nothing else is the invariant, `IsIndexed`.
 
-ghost use Rattle.std.specs.Prelude.{◌≡◌, ℕ, ◌+◌, ◌<◌, ◌≤◌, ◌↔◌, [], Some, None, Ok, Err, IsSome, IfSome, IfNone, IfOk, IfErr, ◌⊎◌, OnOk, OnErr, false};
+ghost use Rattle.std.specs.Prelude.{◌≡◌, ℕ, ◌+◌, ◌<◌, ◌≤◌, ◌↔◌, [], Some, None, Ok, Err, IsSome, IfSome, IfNone, IfOk, IfErr, ◌⊎◌, OnOk, OnErr, OnSome, false};
 ghost use Rattle.exec_base.specs.{Slab.{value_at, next_id, inserted, removed, written, live_count, IsFull, IsPast, Updates, TakesId}, declared.slab.Id.Id as Name};
 ghost use Rattle.exec_base.specs.declared.error.Error.TheVariants as error;
 ghost use Rattle.exec_time.specs.{Notes.{HasRoom, Adds}, Sleepers.{wakes_of, completions_of}};
 
 use crate::notes::{ForwardedResult, Notes};
 use exec_base::error::Error;
-use exec_base::slab::{Id, InsertError, Slab};
+use exec_base::slab::{Id, Slab};
 use exec_base::task_no::TaskNo;
 use std::alloc::Global;
+use std::collections::BTreeSet;
 use std::marker::Model;
 use std::mem;
 
@@ -56,20 +62,26 @@ pub struct Sleeper<S> {
 #[derive(Drop)]
 pub struct Timers<S> {
     sleepers: Slab<Sleeper<S>>,
+    // The sleepers in the order in which they fire: each one's deadline with its id.
+    order: BTreeSet<(u64, TimerId)>,
+    // No slot below this index has a sleeper.
+    empty_below: usize,
 }
 
 impl<S> Model for Timers<S> {
     ghost use Rattle.exec_base.specs.Slab.{Slab as Slots};
     ghost use Rattle.exec_time.specs.declared.timers.Sleeper.{Sleeper as Sleeping};
+    ghost use Rattle.exec_time.specs.Index.{IsIndexed};
 
     ghost Value = { Slots (Sleeping S) };
 
     ghost view = { λ t. t.sleepers };
+
+    ghost invariant = { λ t. IsIndexed t.sleepers t.order t.empty_below };
 }
 
 impl<S: Drop> Timers<S> {
     ghost use Rattle.exec_time.specs.Sleepers.{is_forwarded, observation, displaced, IsEmpty, IsFirst, Ends, IsDue, FiresTo, left_at, IsLowest, ClosesTo};
-    ghost use Rattle.exec_time.specs.Firsts.{FirstBelow};
     ghost use Rattle.exec_time.specs.declared.timers.Observer.TheVariants.{Local, Forwarded};
     ghost use Rattle.exec_time.specs.declared.timers.Sleeper.{Sleeper as Sleeping};
 
@@ -81,6 +93,8 @@ impl<S: Drop> Timers<S> {
     {
         Timers {
             sleepers: Slab::starting_at(alloc, 0),
+            order: BTreeSet::new(alloc),
+            empty_below: 0,
         }
     }
 
@@ -96,15 +110,23 @@ impl<S: Drop> Timers<S> {
         ensures cause { IfErr result (λ e. (e ≡ error.Full) ⊎ (e ≡ error.NoMemory)) }
         ensures kept { OnErr result (self.new ≡ self.old) }
     {
+        let Some(next) = self.sleepers.next_id() else {
+            return Err(Error::Full);
+        };
+        let place = (deadline, TimerId(next));
+        let Ok(_new) = self.order.insert(place) else {
+            return Err(Error::NoMemory);
+        };
         let sleeper = Sleeper {
             deadline,
             observer: Observer::Local(waker),
         };
-        match self.sleepers.insert(alloc, sleeper) {
-            Ok(id) => Ok(TimerId(id)),
-            Err(InsertError::Full(_)) => Err(Error::Full),
-            Err(InsertError::NoMemory(_)) => Err(Error::NoMemory),
-        }
+        let Ok(id) = self.sleepers.insert(alloc, sleeper) else {
+            self.order.remove(&place);
+            return Err(Error::NoMemory);
+        };
+        self.empty_below = self.empty_below.min(id.index as usize);
+        Ok(TimerId(id))
     }
 
     /// How many sleepers there are.
@@ -184,7 +206,7 @@ impl<S: Drop> Timers<S> {
         ensures cancelled { (sleeper : Sleeping S) → value_at self.old id.0 ≡ Some sleeper → (self.new ≡ removed self.old id.0) × Adds notes.old notes.new [] (completions_of (Err error.Closed) sleeper.observer) }
         ensures gone { value_at self.old id.0 ≡ None → (self.new ≡ self.old) × Adds notes.old notes.new [] [] }
     {
-        let Some(sleeper) = self.sleepers.remove(id.0) else {
+        let Some(sleeper) = self.take(id) else {
             return;
         };
         let Sleeper {
@@ -263,17 +285,31 @@ impl<S: Drop> Timers<S> {
     }
 
     /// The sleeper in the first slot that has one.
-    fn lowest(&self) -> Option<TimerId>
-        ensures lowest { IfSome result (λ id. IsLowest self.now id.0) }
-        ensures there { IfSome result (λ id. IsSome (value_at self.now id.0)) }
-        ensures none { IfNone result (IsEmpty self.now) }
+    fn lowest(&mut self) -> Option<TimerId>
+        ensures same { self.new ≡ self.old }
+        ensures lowest { IfSome result (λ id. IsLowest self.old id.0) }
+        ensures there { IfSome result (λ id. IsSome (value_at self.old id.0)) }
+        ensures none { IfNone result (IsEmpty self.old) }
     {
-        for index in 0..self.sleepers.slots() {
-            if let Some(id) = self.sleepers.id_at(index) {
+        while self.empty_below < self.sleepers.slots() {
+            if let Some(id) = self.sleepers.id_at(self.empty_below) {
                 return Some(TimerId(id));
             }
+            self.empty_below += 1;
         }
         None
+    }
+
+    /// Takes a sleeper out. None where it is gone, and then nothing changes.
+    fn take(&mut self, id: TimerId) -> Option<Sleeper<S>>
+        ensures value { result ≡ value_at self.old id.0 }
+        ensures removed { OnSome result (self.new ≡ removed self.old id.0) }
+        ensures map { OnSome result (Updates self.old self.new id.0 None) }
+        ensures kept { IfNone result (self.new ≡ self.old) }
+    {
+        let sleeper = self.sleepers.remove(id.0)?;
+        self.order.remove(&(sleeper.deadline, id));
+        Some(sleeper)
     }
 
     /// Removes a sleeper that is there, and tells its observer the result.
@@ -282,7 +318,7 @@ impl<S: Drop> Timers<S> {
         requires room { HasRoom notes.old 1 }
         ensures { Ends self.old self.new notes.new notes.old id.0 result_told }
     {
-        let Some(sleeper) = self.sleepers.remove(id.0) else {
+        let Some(sleeper) = self.take(id) else {
             unreachable!()
         };
         let Sleeper {
@@ -297,28 +333,7 @@ impl<S: Drop> Timers<S> {
         ensures first { IfSome result (λ at. IsFirst self.now at.0 at.1.0) }
         ensures none { IfNone result (IsEmpty self.now) }
     {
-        let mut first = None;
-        for index in 0..self.sleepers.slots() {
-            first = self.earlier(first, index);
-        }
-        first
-    }
-
-    /// The first sleeper of the slots below an index and of that one.
-    fn earlier(&self, first: Option<(u64, TimerId)>, index: usize) -> Option<(u64, TimerId)>
-        requires below { FirstBelow self.now index first }
-        ensures { FirstBelow self.now (index + 1) result }
-    {
-        let Some(id) = self.sleepers.id_at(index) else {
-            return first;
-        };
-        let Some(sleeper) = self.sleepers.get(id) else {
-            return first;
-        };
-        match first {
-            Some((deadline, _)) if deadline <= sleeper.deadline => first,
-            _ => Some((sleeper.deadline, TimerId(id))),
-        }
+        self.order.first().copied()
     }
 }
 

@@ -21,3 +21,22 @@ fn sleepers_are_named_in_order_and_fire_by_deadline(rt: HostRuntime) -> Result<(
     same!(&rt; (timers.len(), timers.next_deadline()), (0, None));
     Ok(())
 }
+
+#[test]
+fn sleepers_of_one_deadline_fire_by_id_also_after_a_cancel(rt: HostRuntime) -> Result<(), Fail> {
+    let mut timers = Timers::<u32>::new(rt.alloc());
+    let mut notes = Notes::new(rt.alloc());
+    let first = timers.insert(rt.alloc(), 10, TaskNo(1))?;
+    timers.insert(rt.alloc(), 20, TaskNo(2))?;
+    timers.insert(rt.alloc(), 30, TaskNo(3))?;
+    notes.reserve(rt.alloc(), 1)?;
+    timers.cancel(first, &mut notes);
+    same!(&rt; timers.next_deadline(), Some(20));
+    timers.insert(rt.alloc(), 20, TaskNo(4))?;
+    notes.reserve(rt.alloc(), timers.len())?;
+    timers.expire(20, &mut notes);
+    notes.reserve(rt.alloc(), timers.len())?;
+    timers.clear(&mut notes);
+    same!(&rt; notes.wakes.as_slices().0, [TaskNo(4), TaskNo(2), TaskNo(3)].as_slice());
+    Ok(())
+}

@@ -1,10 +1,10 @@
 -- A request that ends for a task of the worker.
-use Rattle.std.proofs.Common.{◌≡◌, ℕ, true, [], ◌∷◌, Option, Some, refl}
+use Rattle.std.proofs.Common.{◌≡◌, ℕ, true, [], ◌∷◌, Option, Some, refl, arith}
 use Rattle.std.proofs.lemmas.Bool.{false≢true}
 use Rattle.exec_base.specs.{Slab.{Slab, written}, declared.slab.Id.Id}
 use Rattle.exec_outcomes.specs.Accounts.{Account}
 use Rattle.exec_request.specs.{Requests.{output_of, retired_of, record_after}, States.Ended, declared.output.RequestOutput.RequestOutput}
-use Rattle.exec_waiters.specs.{Told.{Tells, awake}, States.{is_local, is_observed_here, tick_in}, Events.{Finishes, finished_for, output_told, waker_in}, declared.{deferred.Deferred.Deferred, observer.Observer.{Observer, TheVariants.{Local, Forwarded, DetachedSync, Orphaned}}, waiter.{Waiter.Waiter, Entry.{Entry, TheVariants.Ready}}}}
+use Rattle.exec_waiters.specs.{Told.{Tells, awake}, States.{is_local, is_held_by, is_observed_here, tick_in}, Events.{Finishes, finished_for, output_told, waker_in}, declared.{deferred.Deferred.Deferred, observer.Observer.{Observer, TheVariants.{Local, Forwarded, DetachedSync, Orphaned}}, waiter.{Waiter.Waiter, Entry.{Entry, TheVariants.Ready}}}}
 
 module _ {S F : Type 0} where
   slab_here : (s : Slab (Entry S F)) (id : Id) (told : RequestOutput) (observer : Observer S F) → is_local observer ≡ true → written s id (Ready told) ≡ finished_for s id told observer
@@ -18,6 +18,9 @@ module _ {S F : Type 0} where
   told_here id told (Forwarded sender) here = absurd (false≢true here)
   told_here id told (DetachedSync sender) here = absurd (false≢true here)
   told_here id told Orphaned here = absurd (false≢true here)
+
+  pub held_here : (observer : Observer S F) → is_local observer ≡ true → is_held_by observer ≡ true
+  held_here = grind (arith, false≢true)
 
   pub here_of : (o : Option (Waiter S F)) (w : Waiter S F) → o ≡ Some w → is_observed_here o ≡ true → is_local w.observer ≡ true
   here_of o w is here = rw is at here

@@ -1,5 +1,4 @@
 pub mod Changes
 pub mod Finishing
 pub mod Fits
-pub mod Held
 pub mod Over

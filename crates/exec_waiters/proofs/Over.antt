@@ -1,10 +1,10 @@
 -- What a finish does to the map of requests.
 use Rattle.std.proofs.Common.{◌≡◌, ◌≢◌, Option, Some, None, IsSome, refl, ap, ◌∙◌}
-use Rattle.exec_base.specs.{Slab.{Slab, value_at, removed, freed, Updates}, declared.slab.Id.Id}
-use Rattle.exec_base.proofs.Slots.{Changed-set, Updates-write, Updates-free}
+use Rattle.exec_base.specs.{Slab.{Slab, value_at, Updates}, declared.slab.Id.Id}
+use Rattle.exec_base.proofs.Slots.{Updates-write}
 use Rattle.exec_request.specs.declared.output.RequestOutput.{RequestOutput}
 use Rattle.exec_waiters.specs.{States.{waiter_at, waiter_of}, Events.finished_for, declared.{observer.Observer.{Observer, TheVariants.{Local, Forwarded, DetachedSync, Orphaned}}, waiter.{Waiter.Waiter, Entry.{Entry, TheVariants.{Pending, Ready}}}}}
-use Rattle.exec_waiters.proofs.Changes.{at_by, entry_of}
+use Rattle.exec_waiters.proofs.Changes.{goes, entry_of}
 
 module _ {S F : Type 0} where
   -- what stands under the id of a request that is over
@@ -22,11 +22,6 @@ module _ {S F : Type 0} where
 
   is_there : (s : Slab (Entry S F)) (id : Id) (e : Entry S F) → value_at s id ≡ Some e → IsSome (value_at s id)
   is_there s id e at = rw at refl
-
-  goes : (s : Slab (Entry S F)) (id : Id) (e : Entry S F) → value_at s id ≡ Some e → Updates s (removed s id) id None
-  goes s id e at =
-      let there = at_by s id e at in
-      Updates-free s (removed s id) id e (Changed-set s (removed s id) id.index (freed id.generation) refl refl there.within) there.slot
 
   updates_for : (s : Slab (Entry S F)) (id : Id) (e : Entry S F) (told : RequestOutput) (observer : Observer S F) → value_at s id ≡ Some e → Updates s (finished_for s id told observer) id (left_for told observer)
   updates_for s id e told (Local waker) at = Updates-write s id (Ready told) (is_there s id e at)

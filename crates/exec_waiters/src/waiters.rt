@@ -49,6 +49,8 @@ pub struct Waiters<S, F> {
     pending: usize,
     // How many of them have an operation that the kernel may have.
     in_flight: usize,
+    // No slot below this one has a request that someone can let go, so the search for one begins here.
+    held_from: usize,
 }
 
 impl<S, F> Model for Waiters<S, F> {
@@ -60,7 +62,7 @@ impl<S, F> Model for Waiters<S, F> {
 
     ghost view = { λ w. w.entries };
 
-    ghost invariant = { λ w. IsKept w.entries w.pending w.in_flight };
+    ghost invariant = { λ w. IsKept w.entries w.pending w.in_flight w.held_from };
 }
 
 impl<S: Drop, F: Drop> Waiters<S, F> {
@@ -75,6 +77,7 @@ impl<S: Drop, F: Drop> Waiters<S, F> {
             entries: Slab::with_capacity(alloc, capacity)?,
             pending: 0,
             in_flight: 0,
+            held_from: 0,
         })
     }
 
@@ -88,6 +91,7 @@ impl<S: Drop, F: Drop> Waiters<S, F> {
             entries: Slab::starting_at(alloc, generation),
             pending: 0,
             in_flight: 0,
+            held_from: 0,
         }
     }
 
@@ -170,6 +174,7 @@ impl<S: Drop, F: Drop> Waiters<S, F> {
         {
             Ok(id) => {
                 self.pending += 1;
+                self.held_from = self.held_from.min(id.index as usize);
                 Ok(WaiterId(id))
             }
             Err(InsertError::NoMemory(entry)) => Err(InsertError::NoMemory(entry.asked())),

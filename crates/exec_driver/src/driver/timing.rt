@@ -83,7 +83,7 @@ impl<R: Ring + Drop, S: Drop, F: Drop> Driver<R, S, F> {
 
     /// Does nothing; for proofs: once all that is due was told the wheel may go on, and the first tick ahead is that of a
     /// request's deadline.
-    #[tactic(auto, using(crate::proofs::Firsts::tells_deadlines, crate::proofs::Punctual::reach_of))]
+    #[tactic(auto, using(crate::proofs::Punctual::tells_deadlines, crate::proofs::Punctual::reach_of))]
     pub fn tells_deadlines(&self)
         ensures { TellsDeadlines (seen self.now) }
     {

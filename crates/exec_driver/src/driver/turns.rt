@@ -73,7 +73,7 @@ impl<R: Ring + Drop, S: Drop, F: Drop> Driver<R, S, F> {
         self.enter_if(enters);
         self.sound();
         self.reap_all(opens, deferred, workers);
-        !enters && !self.is_empty()
+        self.is_put_off(enters)
     }
 
     /// Whether a service has to let the kernel work at its end: requests stand, and it isn't to be put off, or

@@ -31,24 +31,19 @@ impl<'a> Around for Sighted<'a> {
 
     #[tactic(auto, using(crate::proofs::Sights::account_there))]
     fn failure(&self, file: u32) -> Option<Error> {
-        let record = self.opens.account(Some(file))?;
-        record.failure()
+        self.opens.account(Some(file))?.failure()
     }
 
     #[tactic(auto, using(crate::proofs::Sights::account_there))]
     fn is_dirty(&self, file: u32) -> bool {
-        match self.opens.account(Some(file)) {
-            Some(record) => record.is_dirty(),
-            None => false,
-        }
+        let account = self.opens.account(Some(file));
+        account.is_some_and(|record| record.is_dirty())
     }
 
     #[tactic(auto, using(crate::proofs::Sights::account_there))]
     fn begin_sync(&self, file: u32) -> u64 {
-        match self.opens.account(Some(file)) {
-            Some(record) => record.begin_sync(),
-            None => 0,
-        }
+        let account = self.opens.account(Some(file));
+        account.map_or(0, |record| record.begin_sync())
     }
 
     fn has_task(&self, task: TaskNo) -> bool {

@@ -1,8 +1,8 @@
 //! The making of a worker, of the pool or of a dedicated task.
 
-ghost use Rattle.std.specs.Prelude.{◌≡◌, ◌+◌, ◌^◌, ◌<◌, ◌≤◌, [], IfOk, true, false};
+ghost use Rattle.std.specs.Prelude.{◌≡◌, ◌+◌, ◌^◌, ◌<◌, [], IfOk, true, false};
 ghost use Rattle.exec_driver.specs.{Driving.seen, Punctual.IsPunctual, Steps.IsFresh as IsFreshDriver};
-ghost use Rattle.exec_machine.specs.Ranges.{horizon, ring_size as size_of_ring};
+ghost use Rattle.exec_machine.specs.Ranges.{horizon};
 ghost use Rattle.exec_ring.specs.Stores.{Same};
 ghost use Rattle.exec_waiters.specs.Told.{HasPlaces, is_untold};
 ghost use Rattle.exec_parts.specs.{Dedicated.{Begins, MayBegin, spins_in}, Records.HasNoNames};
@@ -27,11 +27,6 @@ use std::alloc::{AllocError, Global};
 /// So much may be told before anything was made: once by each message of a turn, and once more.
 const FIRST_TOLD: usize = 65;
 
-/// What a worker of an executor has of its own, and its driver.
-type OwnHome = Home<SimRing, Reply, Reply>;
-
-type OwnDriver = Driver<SimRing, Reply, Reply>;
-
 impl Worker {
     /// The worker of this number, which begins at this moment, and whose root has this number and is to be polled with
     /// this runnable. An `Err` comes only for want of memory. The caller must have a configuration in its ranges, and a
@@ -51,9 +46,10 @@ impl Worker {
         ensures begins { IfOk result (λ w. Begins configuration.now role index root runnable now w) }
         ensures store { Same store.old store.new }
     {
-        let size = ring_size(configuration);
+        let size = configuration.ring.next_power_of_two() as usize;
         let rooms = first_rooms(alloc, size)?;
         let Ok(home) = first_home(alloc, configuration, size, index, now, store) else {
+            // Let go by a call, so that its drop is proved once (docs/DECISIONS.md, 49).
             drop(rooms);
             return Err(AllocError);
         };
@@ -107,9 +103,8 @@ fn first_rooms(alloc: Global, size: usize) -> Result<Rooms, AllocError>
     })
 }
 
-/// What worker `index` has of its own at first, with a ring of this size, and a wheel that begins now. It is dropped by a
-/// call where it is refused room: a drop where it goes out of scope is proved part by part, at its place. An `Err` comes
-/// only for want of memory.
+/// What worker `index` has of its own at first, with a ring of this size, and a wheel that begins now. An `Err` comes only
+/// for want of memory.
 fn first_home(
     alloc: Global,
     configuration: &Configuration,
@@ -117,7 +112,7 @@ fn first_home(
     index: usize,
     now: u64,
     store: &mut Store,
-) -> Result<OwnHome, AllocError>
+) -> Result<Home<SimRing, Reply, Reply>, AllocError>
     requires ranges { MayBegin configuration.now }
     requires few { index < 2 ^ 32 }
     ensures worker { IfOk result (λ home. home.worker ≡ index) }
@@ -129,9 +124,14 @@ fn first_home(
     ensures room { IfOk result (λ home. HasPlaces home.deferred 65) }
     ensures store { Same store.old store.new }
 {
-    let driver = first_driver(alloc, configuration, size, now, store)?;
+    let longest = configuration.connect.max(configuration.rw);
+    let ring = SimRing::new(alloc, size)?;
+    let Ok(driver) = Driver::new(alloc, ring, longest, configuration.tick, now, store) else {
+        return Err(AllocError);
+    };
     let mut home = Home::new(alloc, index as u32, driver);
     if home.deferred.reserve(alloc, FIRST_TOLD).is_err() {
+        // Let go by a call, so that its drop is proved once (docs/DECISIONS.md, 49).
         drop(home);
         return Err(AllocError);
     }
@@ -146,34 +146,5 @@ fn spins_of(configuration: &Configuration) -> SpinnerConfig
         budget_us: configuration.spin.budget,
         max_budget_us: configuration.spin.most,
         quick_wake_us: configuration.spin.quick,
-    }
-}
-
-/// How many operations the ring of a worker holds.
-fn ring_size(configuration: &Configuration) -> usize
-    requires { configuration.now.ring ≤ 32768 }
-    ensures { result ≡ size_of_ring configuration.now }
-{
-    configuration.ring.next_power_of_two() as usize
-}
-
-/// A driver with a ring of this size, and a wheel that begins now. An `Err` comes only for want of memory.
-fn first_driver(
-    alloc: Global,
-    configuration: &Configuration,
-    size: usize,
-    now: u64,
-    store: &mut Store,
-) -> Result<OwnDriver, AllocError>
-    requires ranges { MayBegin configuration.now }
-    ensures fresh { IfOk result (λ driver. IsFreshDriver (seen driver) size (horizon configuration.now) configuration.now.tick now) }
-    ensures punctual { IfOk result (λ driver. IsPunctual (seen driver)) }
-    ensures store { Same store.old store.new }
-{
-    let longest = configuration.connect.max(configuration.rw);
-    let ring = SimRing::new(alloc, size)?;
-    match Driver::new(alloc, ring, longest, configuration.tick, now, store) {
-        Ok(driver) => Ok(driver),
-        Err(_) => Err(AllocError),
     }
 }

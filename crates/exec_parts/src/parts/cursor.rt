@@ -16,25 +16,19 @@ use exec_request::results::LARGEST_WINDOW;
 
 /// The operation by one more result. One that was to be asked for again moved nothing; a refused hint is given up; and
 /// where the first part of two is over, the second begins. The caller must know that the result is lawful for it.
-pub(crate) fn gone_on(operation: Operation, given: OpResult) -> Operation
+pub(crate) fn gone_on(mut operation: Operation, given: OpResult) -> Operation
     requires bytes { IsCountable operation }
     requires lawful { bytes_of given + operation.moved < 2 ^ 64 }
     ensures { (r : Request) → r.operation ≡ operation → result ≡ went_on r given }
 {
-    let unrefused = operation.unrefused && !refuses_hint(&operation, given);
     if begins_second(&operation, given) {
-        return Operation {
-            moved: 0,
-            switched: true,
-            unrefused,
-            ..operation
-        };
+        operation.moved = 0;
+        operation.switched = true;
+    } else {
+        operation.moved += moved_by(&operation, given);
     }
-    Operation {
-        moved: operation.moved + moved_by(&operation, given),
-        unrefused,
-        ..operation
-    }
+    operation.unrefused = operation.unrefused && !refuses_hint(&operation, given);
+    operation
 }
 
 /// Whether the kernel refuses the hint of the operation.
@@ -92,10 +86,8 @@ fn is_done_by(operation: &Operation, total: u64, given: OpResult) -> bool
 fn suits_direct(given: OpResult) -> bool
     ensures { result ≡ suits_direct given }
 {
-    match given {
-        OpResult::Count(count) => count > 0 && count % 4096 == 0,
-        OpResult::Errno(code) => code == 125,
-    }
+    matches!(given, OpResult::Errno(125))
+        || matches!(given, OpResult::Count(count) if count > 0 && count % 4096 == 0)
 }
 
 /// The kind of the part that a request is in, and how many bytes that has.
@@ -104,14 +96,12 @@ fn part(operation: &Operation) -> (Kind, u64)
     ensures kind { result.0 ≡ (part_now (asked_in operation.now) (cursor_in operation.now)).kind }
     ensures length { result.1 ≡ (part_now (asked_in operation.now) (cursor_in operation.now)).length }
 {
+    let length = operation.length;
     match operation.kind {
-        Kind::Direct if operation.switched => (Kind::Read, operation.length),
-        Kind::Direct => (
-            Kind::Direct,
-            operation.skip.saturating_add(operation.length),
-        ),
-        Kind::Many if operation.switched => (Kind::Sync, operation.length),
-        kind => (kind, operation.length),
+        Kind::Direct if operation.switched => (Kind::Read, length),
+        Kind::Direct => (Kind::Direct, operation.skip.saturating_add(length)),
+        Kind::Many if operation.switched => (Kind::Sync, length),
+        kind => (kind, length),
     }
 }
 

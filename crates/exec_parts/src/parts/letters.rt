@@ -52,12 +52,10 @@ impl Letters {
                 message: MailMessage::CancelRequest(held.number),
             });
         }
-        match self.timer.take() {
-            Some(held) => Some(Letter {
-                to: held.worker,
-                message: MailMessage::CancelTimer(held.number),
-            }),
-            None => None,
-        }
+        let held = self.timer.take()?;
+        Some(Letter {
+            to: held.worker,
+            message: MailMessage::CancelTimer(held.number),
+        })
     }
 }

@@ -13,9 +13,8 @@ use std::alloc::{AllocError, Global};
 
 impl<B: Drop> Shared<B> {
     /// Makes a task of this body under the next number, and answers its first runnable, which has a place in the global
-    /// queue. None where the task set is closed. Err comes only for want of memory or of a number below 2^32, and
-    /// then nothing that can be seen has changed. The caller must know that
-    /// the set has no task of the next number.
+    /// queue. None where the task set is closed. Err comes only for want of memory or of a number below 2^32, and then
+    /// nothing that can be seen has changed. The caller must know that the set has no task of the next number.
     pub fn make_task(&mut self, alloc: Global, body: B) -> Result<Option<Runnable>, AllocError>
         requires absent { held self.old.set (record { 0 = length self.old.tasks.items }) ≡ None }
         ensures made { IfOk result (MakesTask body self.old self.new) }

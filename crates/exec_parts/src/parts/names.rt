@@ -4,10 +4,8 @@
 //! sleepers in the order of making, and gives no number twice. Here stands the number of what has each slot now. What
 //! has ended keeps its number until it is released, in the order of ending, since its slot may be given again before.
 
-ghost use Rattle.std.specs.Prelude.{◌≡◌, ◌≢◌, ℕ, ◌+◌, ◌-◌, ◌<◌, ◌≤◌, [], true, false, ◌∷◌, ◌++◌, length, drop, slice_get, option_to_list, Some, IfNone, IfOk, OnOk, OnSome};
+ghost use Rattle.std.specs.{Prelude.{◌≡◌, ◌≢◌, ℕ, ◌+◌, ◌-◌, ◌<◌, ◌≤◌, [], true, false, ◌∷◌, ◌++◌, length, drop, slice_get, option_to_list, Some, IfNone, IfOk, OnOk, OnSome}, Vec.vec_capacity, VecDeque.deque_capacity};
 ghost use Rattle.exec_machine.specs.Requests.{joined_if};
-ghost use Rattle.std.specs.Vec.{vec_capacity};
-ghost use Rattle.std.specs.VecDeque.{deque_capacity};
 ghost use Rattle.exec_parts.specs.Records.{SameNames, HasNoNames, HasRequestRoom, HasTimerRoom, number_in};
 
 use exec_time::timers::TimerId;
@@ -97,20 +95,14 @@ impl Names {
     pub fn request(&self, id: WaiterId) -> usize
         ensures { result ≡ number_in self.now.requests.items id.0 }
     {
-        match self.requests.get(id.0.index as usize) {
-            Some(number) => *number,
-            None => 0,
-        }
+        self.requests.get(id.0.index as usize).copied().unwrap_or(0)
     }
 
     /// The number of a sleeper that is there, or was so until this step.
     pub fn timer(&self, id: TimerId) -> usize
         ensures { result ≡ number_in self.now.timers.items id.0 }
     {
-        match self.timers.get(id.0.index as usize) {
-            Some(number) => *number,
-            None => 0,
-        }
+        self.timers.get(id.0.index as usize).copied().unwrap_or(0)
     }
 
     /// How many slots the requests have had at most: no more of them can have something to tell at once.

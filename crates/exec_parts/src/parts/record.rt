@@ -8,7 +8,6 @@
 ghost use Rattle.std.specs.Prelude.{◌≡◌, ◌≤◌, not, ◌+◌, ◌^◌, ◌<◌, ◌&&◌, false};
 ghost use Rattle.exec_outcomes.specs.{Lawful.{is_lawful, window_of}, Accounts.is_durable, Outcomes.bytes_of};
 ghost use Rattle.exec_request.specs.Requests.{asked_of, target_of};
-ghost use Rattle.exec_machine.specs.declared.state.RequestPhase.TheVariants as phase;
 ghost use Rattle.exec_machine.specs.{Tests.{is_in_flight, is_flying, is_kept, is_of_file, is_resolved, is_unsent}, Requests.{new_request, resolved, resolved_if, dropped, ends_by_drop, flown, granted, reaped, asks_hint, asked_of as asked_in, cursor_of as cursor_in}, Deadlines.{expired, outcome_at_expiry}};
 ghost use Rattle.exec_parts.specs.{Records.{outcome_in, offset_in, operation_in, seen_in, IsCountable, IsInRange}, Calls.{paying, releasing, forwarded_for}};
 
@@ -74,9 +73,7 @@ impl Record {
 
     /// It is over, where it has an outcome.
     pub(crate) fn resolve_if(&mut self, outcome: Option<Outcome>)
-        ensures shown { self.new.shown ≡ resolved_if outcome self.old.shown }
-        ensures id { self.new.id ≡ self.old.id }
-        ensures sent { self.new.sent ≡ self.old.sent }
+        ensures { self.new ≡ record self.old { shown = resolved_if outcome self.old.shown } }
     {
         if let Some(outcome) = outcome {
             self.resolve(outcome);
@@ -163,7 +160,7 @@ impl Record {
 
     /// Its operation is put into the submission queue, with the hint or without.
     pub fn stage(&mut self, hinted: bool)
-        ensures shown { self.new.shown ≡ record self.old.shown { operation = record self.old.shown.operation { hinted = hinted }; phase = phase.Staged } }
+        ensures shown { self.new.shown ≡ record self.old.shown { operation = record self.old.shown.operation { hinted = hinted }; phase = RequestPhase.Staged } }
         ensures id { self.new.id ≡ self.old.id }
         ensures sent { self.new.sent ≡ self.old.sent }
     {
@@ -211,12 +208,11 @@ impl Record {
         ensures { result ≡ (asks_hint self.now.shown.operation && self.now.shown.operation.unrefused) }
     {
         let operation = &self.shown.operation;
-        let asks = match operation.kind {
-            Kind::Hint => true,
-            Kind::Direct => operation.switched,
+        match operation.kind {
+            Kind::Hint => operation.unrefused,
+            Kind::Direct => operation.switched && operation.unrefused,
             _ => false,
-        };
-        asks && operation.unrefused
+        }
     }
 
     /// A task of another worker waits for it, and its worker is told so.

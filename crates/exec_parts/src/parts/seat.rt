@@ -125,9 +125,8 @@ impl Seat {
     pub(crate) fn reach(&mut self, clock: u64)
         ensures { self.new ≡ reached clock self.old }
     {
-        match self.rest {
-            Rest::Until(moment) if moment <= clock => self.rest = Rest::Awake,
-            _ => {}
+        if matches!(self.rest, Rest::Until(moment) if moment <= clock) {
+            self.rest = Rest::Awake;
         }
     }
 }

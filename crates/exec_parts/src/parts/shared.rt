@@ -5,8 +5,7 @@
 //! running executor is one shared thing here: the global queue with its mirror, a shard of the task set, a gate, an
 //! inbox with its published batch.
 
-ghost use Rattle.std.specs.Prelude.{◌≡◌, ◌<◌, ◌≤◌, ◌^◌, ◌||◌, not, IfOk};
-ghost use Rattle.std.specs.List.{list_all};
+ghost use Rattle.std.specs.{Prelude.{◌≡◌, ◌<◌, ◌≤◌, ◌^◌, ◌||◌, not, IfOk}, List.list_all};
 ghost use Rattle.exec_parts.specs.Firsts.{IsFresh};
 
 use crate::parts::record::Record;

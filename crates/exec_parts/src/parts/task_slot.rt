@@ -7,16 +7,11 @@
 //!
 //! Who polls a task acts for it; others wake it or clear it, each by one section on the cell.
 
-ghost use Rattle.std.specs.Prelude.{◌≡◌, ◌-◌, ◌<◌, [], ◌∷◌, ◌++◌, length, not, slice_get, take, option_to_list, is_some, Some, None, IsSome, IsTrue, IfOk, OnErr, OnOk, true, false, if◌then◌else◌};
-ghost use Rattle.std.specs.Vec.{vec_capacity};
-ghost use Rattle.exec_base.specs.OneShot.{polled, sent};
-ghost use Rattle.exec_base.specs.declared.one_shot.OneShotState.TheVariants as shot;
-ghost use Rattle.exec_machine.specs.declared.state.Waiting.TheVariants as waiting;
+ghost use Rattle.std.specs.{Prelude.{◌≡◌, ◌-◌, ◌<◌, [], ◌∷◌, ◌++◌, length, not, slice_get, take, option_to_list, is_some, Some, None, IsSome, IsTrue, IfOk, OnErr, OnOk, true, false, if◌then◌else◌}, Vec.vec_capacity};
+ghost use Rattle.exec_base.specs.{OneShot.{polled, sent}, declared.one_shot.OneShotState.TheVariants.Open};
 ghost use Rattle.exec_machine.specs.Tasks.{begun_waiting};
-ghost use Rattle.exec_task.specs.declared.body.Said.TheVariants as said;
-ghost use Rattle.exec_task.specs.declared.runnable.AfterPoll.TheVariants as after;
-ghost use Rattle.exec_task.specs.declared.task.Phase.TheVariants as cell;
 ghost use Rattle.exec_task.specs.Phases.{is_idle, is_polled, queued_body, begun, woken, over, pended, pend_answer, runnable_of};
+ghost use Rattle.exec_parts.specs.{Calls.{heard_in, sleeper_in}, Phased.is_complete, Records.numbers_held, Pooled.cleared_slot, Polls.{Acts, pended_slot}};
 
 use crate::parts::held::Held;
 use exec_base::error::Error;
@@ -56,10 +51,6 @@ pub struct TaskSlot<B> {
 }
 
 impl<B: Drop> TaskSlot<B> {
-    ghost use Rattle.exec_parts.specs.{Calls.{heard_in, sleeper_in}, Phased.is_complete, Records.numbers_held};
-    ghost use Rattle.exec_parts.specs.Pooled.{cleared_slot};
-    ghost use Rattle.exec_parts.specs.Polls.{pended_slot};
-
     /// The task of this number with this body, to be polled for the first time, and its runnable. Where it is a root,
     /// this worker is its home.
     pub fn new(
@@ -70,9 +61,9 @@ impl<B: Drop> TaskSlot<B> {
         body: B,
     ) -> (Self, Runnable)
         ensures runnable { result.1 ≡ runnable_of result.0.cell }
-        ensures cell { result.0.cell ≡ record { number = number; owner = owner; phase = cell.Queued body; cancelled = false } }
+        ensures cell { result.0.cell ≡ record { number = number; owner = owner; phase = Phase.Queued body; cancelled = false } }
         ensures held { result.0.held.items ≡ [] }
-        ensures slot { result.0 ≡ record { cell = result.0.cell; body = None; told = Some said.Start; held = result.0.held; waiting = waiting.Nothing; output = shot.Open; fresh = false; cleared = false; home = home; poller = 0 } }
+        ensures slot { result.0 ≡ record { cell = result.0.cell; body = None; told = Some Said.Start; held = result.0.held; waiting = Waiting.Nothing; output = Open; fresh = false; cleared = false; home = home; poller = 0 } }
     {
         let (cell, runnable) = Task::new(number, owner, body);
         let slot = TaskSlot {
@@ -115,10 +106,7 @@ impl<B: Drop> TaskSlot<B> {
     pub fn newest(&self) -> Option<usize>
         ensures { result ≡ slice_get (numbers_held self.now.held.items) (length (numbers_held self.now.held.items) - 1) }
     {
-        match self.held.last() {
-            Some(held) => Some(held.number),
-            None => None,
-        }
+        Some(self.held.last()?.number)
     }
 
     /// Begins a poll by this worker, with the task's runnable. False where the runnable is stale, since the task was
@@ -160,7 +148,7 @@ impl<B: Drop> TaskSlot<B> {
 
     /// What the polled task waited for has come, and its body is told so.
     pub fn take(&mut self, said: Said)
-        ensures { self.new ≡ record self.old { waiting = waiting.Nothing; told = Some said } }
+        ensures { self.new ≡ record self.old { waiting = Waiting.Nothing; told = Some said } }
     {
         self.waiting = Waiting::Nothing;
         self.told = Some(said);
@@ -195,10 +183,7 @@ impl<B: Drop> TaskSlot<B> {
         ensures some { 0 < length (numbers_held self.old.held.items) → IsSome result }
         ensures same { self.new ≡ record self.old { held = self.new.held } }
     {
-        match self.held.pop() {
-            Some(held) => Some(held.number),
-            None => None,
-        }
+        Some(self.held.pop()?.number)
     }
 
     /// Changes the requests that it holds for these.
@@ -228,7 +213,7 @@ impl<B: Drop> TaskSlot<B> {
 
     /// The polled task waits for this request of another worker, whose output will be sent.
     pub fn await_output(&mut self, request: usize)
-        ensures { self.new ≡ record self.old { waiting = waiting.Request request; output = shot.Open } }
+        ensures { self.new ≡ record self.old { waiting = Waiting.Request request; output = Open } }
     {
         self.waiting = Waiting::Request(request);
         self.output = OneShot::new();
@@ -248,10 +233,7 @@ impl<B: Drop> TaskSlot<B> {
         ensures heard { result ≡ heard_in self.old.output }
         ensures polled { self.new ≡ record self.old { output = polled self.old.output } }
     {
-        match self.output.poll() {
-            Ok(output) => output,
-            Err(error) => Some(Err(error)),
-        }
+        self.output.poll().unwrap_or_else(|error| Some(Err(error)))
     }
 
     /// Wakes it. Answers its runnable where it was idle; a task that is polled remembers the wake.
@@ -295,7 +277,7 @@ impl<B: Drop> TaskSlot<B> {
     /// Ends it with the poll. The caller must be who polls it.
     pub fn done(&mut self, how: Ended) -> AfterPoll
         requires polled { IsTrue (is_polled self.old.cell.phase) }
-        ensures answer { result ≡ after.Retire self.old.cell.number how }
+        ensures answer { result ≡ AfterPoll.Retire self.old.cell.number how }
         ensures over { self.new ≡ record self.old { cell = over self.old.cell } }
     {
         self.cell.done(how)
@@ -303,8 +285,6 @@ impl<B: Drop> TaskSlot<B> {
 }
 
 impl<B: Body + Drop> TaskSlot<B> {
-    ghost use Rattle.exec_parts.specs.Polls.{Acts};
-
     /// The next act of the body of a polled task, which hears what it is told. Where the act wants memory and there is
     /// none, all is as before. The caller must know that the slot has the body, and what that is told.
     pub fn step<A: Around>(&mut self, alloc: Global, around: &mut A) -> Result<Act<B>, AllocError>
@@ -323,6 +303,7 @@ impl<B: Body + Drop> TaskSlot<B> {
         match body.step(alloc, around, said) {
             Ok(act) => Ok(act),
             Err(said) => {
+                // Let go by a call, so that its drop is proved once (docs/DECISIONS.md, 49).
                 drop(self.told.replace(said));
                 Err(AllocError)
             }

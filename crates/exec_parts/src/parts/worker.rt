@@ -2,6 +2,7 @@
 
 ghost use Rattle.std.specs.Prelude.{◌≡◌};
 ghost use Rattle.exec_machine.specs.Deadlines.{earlier as earlier_moment};
+ghost use Rattle.exec_parts.specs.{Tests.{is_anything_told, has_open_requests, HasToldDue, IsNextMoment}, Pooled.with_raises, View.driver_of};
 
 use crate::parts::letters::Letters;
 use crate::parts::mail::{Mail, Reply};
@@ -99,9 +100,6 @@ pub struct Worker {
 }
 
 impl Worker {
-    ghost use Rattle.exec_parts.specs.Tests.{is_anything_told, has_open_requests, HasToldDue, IsNextMoment};
-    ghost use Rattle.exec_parts.specs.{Pooled.with_raises, View.driver_of};
-
     /// Its ring gets the wakes that were raised for it.
     pub fn take_raises(&mut self, seat: &mut Seat)
         ensures driver { driver_of self.new ≡ with_raises seat.old.raised (driver_of self.old) }

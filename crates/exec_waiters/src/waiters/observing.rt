@@ -2,7 +2,7 @@
 
 ghost use Rattle.std.specs.Prelude.{◌≡◌, ◌<◌, Some, None, IfSome, IfNone, is_some, true, false};
 ghost use Rattle.exec_base.specs.{Slab.value_at, declared.slab.Id.Id as Name};
-ghost use Rattle.exec_waiters.specs.{Told.{HasPlaces, Tells}, States.{waiter_at, is_observed_here, may_be_seen, is_held_at, is_detached, output_at}, Events.{changed, with_waker, with_observer, waker_of, seen_by, taken, forwarded, told_by_forward, orphaned, told_by_orphan, asks_cancel_by_orphan, told_by_close, IsFirstHeld}};
+ghost use Rattle.exec_waiters.specs.{Told.{HasPlaces, Tells}, States.{waiter_at, is_observed_here, may_be_seen, is_held_by, is_held_at, is_detached, output_at}, Events.{changed, with_waker, with_observer, waker_of, seen_by, taken, forwarded, told_by_forward, orphaned, told_by_orphan, asks_cancel_by_orphan, told_by_close, IsFirstHeld}};
 
 use super::Waiters;
 use crate::completed::Closed;
@@ -109,9 +109,10 @@ impl<S: Drop, F: Drop> Waiters<S, F> {
         }
     }
 
-    // Has this one wait for a request that isn't over, and answers who waited.
+    // Has this one wait for a request that isn't over, in place of who could let it go; and answers who that was.
     fn set_observer(&mut self, id: WaiterId, observer: Observer<S, F>) -> Observer<S, F>
         requires there { is_some (waiter_at self.old id.0) ≡ true }
+        requires held { (waiter : Asking S F) → waiter_at self.old id.0 ≡ Some waiter → is_held_by waiter.observer ≡ true }
         requires elsewhere { is_detached observer ≡ false }
         ensures before { (waiter : Asking S F) → waiter_at self.old id.0 ≡ Some waiter → result ≡ waiter.observer }
         ensures set { self.new ≡ changed self.old id.0 (with_observer observer) }
@@ -133,6 +134,7 @@ impl<S: Drop, F: Drop> Waiters<S, F> {
         ensures same { IfNone result ((self.new ≡ self.old) × (deferred.new ≡ deferred.old)) }
     {
         let id = self.first_observed()?;
+        self.held_from = id.0.index as usize;
         let waker = self.waker(id);
         let cancels = self.orphan(id, deferred);
         deferred.wake(waker);
@@ -145,7 +147,7 @@ impl<S: Drop, F: Drop> Waiters<S, F> {
         ensures first { IfSome result (λ id. IsFirstHeld self.now id.0) }
         ensures none { IfNone result ((id : Name) → is_held_at (value_at self.now id) ≡ false) }
     {
-        for index in 0..self.entries.slots() {
+        for index in self.held_from..self.entries.slots() {
             if let Some(id) = self.held_at(index) {
                 return Some(id);
             }

@@ -1,8 +1,6 @@
-use Rattle.std.proofs.Common.{◌≡◌, ◌≤◌, [], ◌∷◌, None, refl, arith}
-use Rattle.std.proofs.lemmas.Bool.{true≢false}
+use Rattle.std.proofs.{Common.{◌≡◌, ◌≤◌, [], ◌∷◌, None, refl, arith}, lemmas.Bool.true≢false}
+use Rattle.exec_core.{specs.Examples.{bare_desk, holding, task_zero, with_closed_set, with_task}, proofs.QueuedOnce.ordinary_alone}
 use Rattle.exec_machine.specs.declared.state.TaskPhase.TheVariants as task
-use Rattle.exec_core.specs.Examples.{bare_desk, holding, task_zero, with_closed_set, with_task}
-use Rattle.exec_core.proofs.OneTask.{ordinary_alone}
 use Rattle.exec_core.proofs.examples.ordinary_tasks.Goals as goal
 
 pub returns : goal.returns

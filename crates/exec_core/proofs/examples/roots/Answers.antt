@@ -1,10 +1,8 @@
-use Rattle.std.proofs.Common.{◌≡◌, [], ◌∷◌, Some, slice_get, refl, sym, subst, ◌∙◌, arith}
-use Rattle.std.proofs.lemmas.{Bool.true≢false, Option.same_Some}
-use Rattle.exec_machine.specs.declared.state.TaskPhase.TheVariants as task
+use Rattle.std.proofs.{Common.{◌≡◌, [], ◌∷◌, Some, slice_get, refl, sym, subst, ◌∙◌, arith}, lemmas.{Bool.true≢false, Option.same_Some}}
 use Rattle.exec_machine.specs.declared.state.TaskPhase.{TaskPhase}
 use Rattle.exec_moves.specs.{Plays.Playing, State.Desk}
-use Rattle.exec_core.specs.{Examples.{bare_desk, flagged, holding, task_zero, with_closed_set, with_task}, Once.{IsRootOnce, QueuesOnce}}
-use Rattle.exec_core.proofs.OneTask.{root_alone}
+use Rattle.exec_core.{specs.{Examples.{bare_desk, flagged, holding, task_zero, with_closed_set, with_task}, Once.{IsRootOnce, QueuesOnce}}, proofs.QueuedOnce.root_alone}
+use Rattle.exec_machine.specs.declared.state.TaskPhase.TheVariants as task
 use Rattle.exec_core.proofs.examples.roots.Goals as goal
 
 -- what is said of the root, at its desk

@@ -1,7 +1,7 @@
 use Rattle.std.proofs.{Common.{true, ◌==◌, refl, sym, ap}, lemmas.Bool.false≢true}
+use Rattle.exec_core.specs.Examples.{of_open}
 use Rattle.exec_outcomes.specs.declared.outcome.Kind.TheVariants as kind
 use Rattle.exec_machine.specs.declared.state.RequestPhase.TheVariants as phase
-use Rattle.exec_core.specs.Examples.{of_open}
 use Rattle.exec_core.proofs.examples.turns.Goals as goal
 
 pub returns-clause-both_in_flight : goal.returns-clause-both_in_flight

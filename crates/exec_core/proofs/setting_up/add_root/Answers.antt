@@ -1,5 +1,5 @@
 use Rattle.std.proofs.Common.{length, refl, ◌∙◌}
-use Rattle.exec_core.proofs.CoreFirsts.{root_is}
+use Rattle.exec_core.proofs.Beginning.{root_is}
 use Rattle.exec_core.proofs.setting_up.add_root.Goals as goal
 
 pub returns : goal.returns

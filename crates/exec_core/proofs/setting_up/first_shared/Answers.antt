@@ -1,7 +1,5 @@
-use Rattle.std.proofs.{Common.{[], ◌∷◌, length, sym, ap, subst, ◌∙◌, append_assoc, append-nil, arith}}
-use Rattle.std.specs.Vec.Iter.{into_iter_items}
-use Rattle.exec_core.specs.Firsts.{HasRoots}
-use Rattle.exec_core.proofs.CoreFirsts.{bare_with, nil_from_length, roots_more}
+use Rattle.std.{proofs.{Common.{[], ◌∷◌, length, sym, ap, subst, ◌∙◌, append_assoc, append-nil, arith}, lemmas.List.nil_from_length}, specs.Vec.Iter.into_iter_items}
+use Rattle.exec_core.{specs.Firsts.HasRoots, proofs.Beginning.{bare_with, roots_more}}
 use Rattle.exec_core.proofs.setting_up.first_shared.Goals as goal
 
 pub loop-root-init : goal.loop-root-init

@@ -1,5 +1,4 @@
-use Rattle.std.proofs.Common.{◌≡◌, ◌++◌, length}
-use Rattle.std.specs.Vec.Iter.{into_iter_items, into_iter_len}
+use Rattle.std.{proofs.Common.{◌≡◌, ◌++◌, length}, specs.Vec.Iter.{into_iter_items, into_iter_len}}
 use Rattle.exec_core.specs.Firsts.{HasRoots, IsBare}
 use Rattle.exec_core.proofs.setting_up.first_shared.Given as goal
 

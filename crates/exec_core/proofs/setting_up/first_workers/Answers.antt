@@ -1,6 +1,6 @@
 use Rattle.std.proofs.Common.{[], ◌∷◌, length, ap, subst, ◌∙◌, append_assoc, arith}
 use Rattle.exec_parts.specs.{Dedicated.Begins, declared.parts.role.Role.TheVariants.Pool}
-use Rattle.exec_core.proofs.CoreFirsts.{begin_more}
+use Rattle.exec_core.proofs.Beginning.{begin_more}
 use Rattle.exec_core.proofs.setting_up.first_workers.Goals as goal
 
 pub loop-runnable-preserved : goal.loop-runnable-preserved

@@ -2,4 +2,4 @@ use Rattle.exec_driver_laws.proofs.Synced.{not_dropped}
 use Rattle.exec_driver_laws.proofs.runs.joining.Goals as goal
 
 pub returns-clause-dropped : goal.returns-clause-dropped
-returns-clause-dropped c = λ worker call. not_dropped worker call
+returns-clause-dropped c = not_dropped

@@ -2,4 +2,4 @@ use Rattle.exec_driver_laws.proofs.Synced.{not_lost}
 use Rattle.exec_driver_laws.proofs.runs.kept_outputs.Goals as goal
 
 pub returns-clause-lost : goal.returns-clause-lost
-returns-clause-lost c = λ worker gates gates' call other. not_lost worker gates gates' call other
+returns-clause-lost c = not_lost

@@ -2,12 +2,4 @@ use Rattle.exec_driver_laws.proofs.Synced.{not_left, not_two, not_back, not_misp
 use Rattle.exec_driver_laws.proofs.runs.what_no_calls_lead_to.Goals as goal
 
 pub returns : goal.returns
-returns c =
-    record {
-      untold = λ worker call. not_left worker call;
-      two_drivers = λ gates gates' calls. not_two gates gates' calls;
-      comes_back = not_back;
-      misplaced = not_misplaced;
-      kept = fails_until;
-      set_between = not_longer;
-    }
+returns c = record { untold = not_left; two_drivers = not_two; comes_back = not_back; misplaced = not_misplaced; kept = fails_until; set_between = not_longer }

@@ -1,9 +1,5 @@
 use Rattle.std.proofs.Common.{◌==◌, zero, suc, [], unwrap_or, refl, ap}
-use Rattle.std.proofs.lemmas.Bool.{true≢false, false≢true}
-use Rattle.std.specs.Prelude.{is_some}
-use Rattle.exec_machine.specs.Tests.{is_empty}
-use Rattle.exec_books.specs.Examples.{one_asleep}
-use Rattle.exec_run.specs.Log.{KeepOwned}
+use Rattle.exec_run.{proofs.Names.{true≢false, false≢true, is_some, is_empty, one_asleep}, specs.Log.KeepOwned}
 use Rattle.exec_run.proofs.examples.each_state.Goals as goal
 
 kept : KeepOwned one_asleep.world

@@ -1,9 +1,6 @@
 use Rattle.std.proofs.Common.{◌≡◌, zero, suc, true, refl}
-use Rattle.std.proofs.lemmas.Bool.{false≢true}
-use Rattle.exec_outcomes.specs.declared.outcome.Outcome.TheVariants.{Success}
-use Rattle.exec_machine.specs.{declared.state.{Request.Request, RequestPhase.TheVariants.Resolved}, Tests.is_resolved}
-use Rattle.exec_books.specs.Examples.{its_own, its_request, with_own}
-use Rattle.exec_run.specs.Log.{KeepOwned}
+use Rattle.exec_machine.specs.declared.state.Request.{Request}
+use Rattle.exec_run.{proofs.Names.{false≢true, Success, Resolved, is_resolved, its_own, its_request, with_own}, specs.Log.KeepOwned}
 use Rattle.exec_run.proofs.examples.what_requests_own.Goals as goal
 
 alone : (r : Request) → (r.released ≡ true → is_resolved r.phase ≡ true) → KeepOwned (with_own its_own r)

@@ -1,9 +1,6 @@
 use Rattle.std.proofs.Common.{◌≡◌, zero, suc, refl, sym, ◌∙◌}
-use Rattle.std.proofs.lemmas.Bool.{false≢true, true≢false}
-use Rattle.exec_machine.specs.Deadlines.{next_due, rest_until}
+use Rattle.exec_run.{proofs.Names.{false≢true, true≢false, next_due, rest_until, its_seat, sending}, specs.Log.NoneOversleeps}
 use Rattle.exec_machine.specs.declared.state.Rest.TheVariants as rest
-use Rattle.exec_books.specs.Examples.{its_seat, sending}
-use Rattle.exec_run.specs.Log.{NoneOversleeps}
 use Rattle.exec_run.proofs.examples.who_sleeps.Goals as goal
 
 -- two that aren't computed yet would be compared step by step

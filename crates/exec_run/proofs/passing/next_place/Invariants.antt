@@ -1,6 +1,5 @@
 use Rattle.std.proofs.Common.{◌≡◌, ◌+◌, ◌-◌, ◌≤◌, ◌^◌, not, length, drop, Some}
-use Rattle.exec_task.specs.Sight.{Sight}
-use Rattle.exec_run.specs.Script.{passed_over}
+use Rattle.exec_run.{proofs.Names.Sight, specs.Script.passed_over}
 use Rattle.exec_run.proofs.passing.next_place.Given as goal
 
 -- as many words are passed over from here on as from the first on, but for those that were

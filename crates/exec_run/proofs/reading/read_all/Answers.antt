@@ -1,6 +1,5 @@
 use Rattle.std.proofs.Common.{arith}
-use Rattle.std.proofs.lemmas.List.{length-take}
-use Rattle.exec_run.proofs.TakenBytes.{taken_behind}
+use Rattle.exec_run.proofs.{Names.length-take, RunLemmas.taken_behind}
 use Rattle.exec_run.proofs.reading.read_all.Goals as goal
 
 pub returns-in_err-count-clause-few : goal.returns-in_err-count-clause-few

@@ -1,6 +1,5 @@
 use Rattle.std.proofs.Common.{refl, inl}
-use Rattle.exec_run.specs.declared.complaint.Complaint.TheVariants.{TooLong, Syntax, Config}
-use Rattle.exec_run.proofs.{Completeness.completed, RunLemmas.explained}
+use Rattle.exec_run.{proofs.RunLemmas.{completed, explained}, specs.declared.complaint.Complaint.TheVariants.{TooLong, Syntax, Config}}
 use Rattle.exec_run.proofs.running.run.Goals as goal
 
 pub returns-in-Err-TooLong-clause-explains : goal.returns-in-Err-TooLong-clause-explains

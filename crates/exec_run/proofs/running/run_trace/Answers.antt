@@ -1,7 +1,5 @@
 use Rattle.std.proofs.Common.{List, ℕ, subst, arith}
-use Rattle.exec_text.specs.Grammar.{IsTraceOf, meaning_of}
-use Rattle.std.proofs.lemmas.Result.{err_from_is_err_and}
-use Rattle.exec_run.proofs.{Counted.{few_of, few_scripts}, RunLemmas.{cause_of}}
+use Rattle.exec_run.proofs.{Names.{IsTraceOf, meaning_of, err_from_is_err_and}, Plans.{few_there, few_scripts}, RunLemmas.cause_of}
 use Rattle.exec_run.proofs.running.run_trace.Goals as goal
 
 pub returns-in_err-trace-clause-err : goal.returns-in_err-trace-clause-err
@@ -11,4 +9,4 @@ pub log_trace-requires-clause-few : goal.log_trace-requires-clause-few
 log_trace-requires-clause-few g c =
     let text = c.in_ok-text.text.items in
     let spelled : IsTraceOf text (meaning_of c.in_ok-trace.trace) = subst (λ (x : List ℕ). IsTraceOf x (meaning_of c.in_ok-trace.trace)) c.as_slice.ensures.value c.in_ok-trace.ensures.ok.spelled in
-    few_of c.in_ok-trace.trace (few_scripts text (meaning_of c.in_ok-trace.trace) c.in_ok-text.ensures.whole.short spelled)
+    few_there c.in_ok-trace.trace (few_scripts text (meaning_of c.in_ok-trace.trace) c.in_ok-text.ensures.whole.short spelled)

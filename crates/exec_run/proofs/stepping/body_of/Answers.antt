@@ -1,4 +1,4 @@
-use Rattle.exec_run.proofs.Carried.{carries_body}
+use Rattle.exec_run.proofs.StepLemmas.{carries_body}
 use Rattle.exec_run.proofs.stepping.body_of.Goals as goal
 
 pub returns-in-Spawn : goal.returns-in-Spawn

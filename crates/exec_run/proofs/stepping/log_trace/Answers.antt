@@ -1,9 +1,5 @@
 use Rattle.std.proofs.Common.{All, length, refl, sym, subst, arith}
-use Rattle.exec_core.proofs.InTurn.{orderly}
-use Rattle.exec_moves.specs.Plays.{first_playing}
-use Rattle.exec_text.specs.Grammar.{StepFits, StepNames, meaning_of}
-use Rattle.exec_run.specs.{Asking.limits_of, Script.{IsProgram, Runs, held_told, itself, spot_told, words_of_all}, Steps.StandsAt}
-use Rattle.exec_run.proofs.{Told.on_ok, Logs.BeginsWell, Plans.{known_of, plan_of}, RunLemmas.{logged, front_logged, all_logged, gave_up}}
+use Rattle.exec_run.{proofs.{Names.{orderly, first_playing, StepFits, StepNames, meaning_of}, StepLemmas.on_ok, RunLemmas.{BeginsWell, logged, front_logged, all_logged, gave_up}, Plans.{known_of, plan_of}}, specs.{Asking.limits_of, Script.{IsProgram, Runs, held_told, itself, spot_told, words_of_all}, Steps.StandsAt}}
 use Rattle.exec_run.proofs.stepping.log_trace.Goals as goal
 
 pub new-requires-clause-plan : goal.new-requires-clause-plan

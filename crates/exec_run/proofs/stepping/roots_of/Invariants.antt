@@ -1,6 +1,5 @@
 use Rattle.std.proofs.Common.{◌≡◌, ◌-◌, ◌∷◌, [], replicate}
-use Rattle.exec_machine.specs.declared.state.Code.{TheVariants.{Root, Waits}}
-use Rattle.exec_run.specs.Script.{begun, words_of_all}
+use Rattle.exec_run.{proofs.Names.{Root, Waits}, specs.Script.{begun, words_of_all}}
 use Rattle.exec_run.proofs.stepping.roots_of.Given as goal
 
 abbrev pub invariant-loop : goal.invariant-loop

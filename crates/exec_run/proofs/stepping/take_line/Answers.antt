@@ -1,5 +1,5 @@
 use Rattle.std.proofs.Common.{inr}
-use Rattle.exec_run.proofs.{StepLemmas.{IsTaken, line_broken, line_taken}, Told.on_err}
+use Rattle.exec_run.proofs.StepLemmas.{IsTaken, line_broken, line_taken, on_err}
 use Rattle.exec_run.proofs.stepping.take_line.Goals as goal
 
 pub returns-clause-takes : goal.returns-clause-takes

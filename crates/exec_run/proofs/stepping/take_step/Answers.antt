@@ -1,4 +1,4 @@
-use Rattle.exec_run.proofs.{Told.on_err, StepLemmas.{named_in, one_leads, one_broke}}
+use Rattle.exec_run.proofs.StepLemmas.{on_err, named_in, one_leads, one_broke}
 use Rattle.exec_run.proofs.stepping.take_step.Goals as goal
 
 pub returns-in_err-take_line-in-One-clause-breaks : goal.returns-in_err-take_line-in-One-clause-breaks

@@ -1,13 +1,6 @@
 use Rattle.std.proofs.Common.{◌∙◌, List, subst, arith}
-use Rattle.std.proofs.lemmas.List.{take_all}
-use Rattle.exec_machine.specs.declared.step.Step.{Step, TheVariants.Work}
-use Rattle.exec_moves.specs.Departures.{played}
-use Rattle.exec_run.proofs.{Told.on_err, StepLemmas.{leads_none, leads_to_next, broke_at}}
-use Rattle.exec_run.specs.Steps.{Leads}
+use Rattle.exec_run.{proofs.{Names.{take_all, Step, Work, played}, StepLemmas.{on_err, leads_to_next, broke_at}}, specs.Steps.Leads}
 use Rattle.exec_run.proofs.stepping.take_steps.Goals as goal
-
-pub loop-step-init : goal.loop-step-init
-loop-step-init g c = grind (arith, leads_none)
 
 pub take_step-requires : goal.take_step-requires
 take_step-requires g c =

@@ -1,8 +1,5 @@
 use Rattle.std.proofs.Common.{◌≡◌, All, length, take}
-use Rattle.exec_machine.specs.Progress.{Plan}
-use Rattle.exec_moves.specs.Plays.{Playing}
-use Rattle.exec_text.specs.Grammar.{StepNames}
-use Rattle.exec_run.specs.Steps.{Leads, StandsAt}
+use Rattle.exec_run.{proofs.Names.{Plan, Playing, StepNames}, specs.Steps.{Leads, StandsAt}}
 use Rattle.exec_run.proofs.stepping.take_steps.Given as goal
 
 -- the steps of the lines so far were taken, and their lines given

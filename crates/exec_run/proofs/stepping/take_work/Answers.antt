@@ -1,10 +1,6 @@
 use Rattle.std.proofs.Common.{◌≡◌, ◌∙◌, arith}
-use Rattle.exec_moves.specs.Departures.{played}
-use Rattle.exec_run.proofs.{Told.on_err, StepLemmas.{works_none, works_more, works_all, works_refused, works_stopped}}
+use Rattle.exec_run.proofs.{Names.played, StepLemmas.{on_err, works_more, works_all, works_refused, works_stopped}}
 use Rattle.exec_run.proofs.stepping.take_work.Goals as goal
-
-pub loop-init : goal.loop-init
-loop-init g c = grind (arith, works_none)
 
 pub take_line-requires : goal.take_line-requires
 take_line-requires g c =

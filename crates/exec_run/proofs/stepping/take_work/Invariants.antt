@@ -1,7 +1,5 @@
 use Rattle.std.proofs.Common.{◌≡◌}
-use Rattle.exec_machine.specs.Progress.{Plan}
-use Rattle.exec_moves.specs.Plays.{Playing}
-use Rattle.exec_run.specs.Steps.{StandsAt, Works}
+use Rattle.exec_run.{proofs.Names.{Plan, Playing}, specs.Steps.{StandsAt, Works}}
 use Rattle.exec_run.proofs.stepping.take_work.Given as goal
 
 -- so many lines of the worker were taken and given

@@ -1,7 +1,5 @@
 use Rattle.std.proofs.Common.{◌∙◌, sym, take, drop, arith}
-use Rattle.std.proofs.lemmas.Grind.{common_steps}
-use Rattle.std.proofs.lemmas.List.{take-append-drop}
-use Rattle.exec_base.proofs.Ends.{given_more}
+use Rattle.exec_run.proofs.Names.{common_steps, take-append-drop, given_more}
 use Rattle.exec_run.proofs.writing.give_all.Goals as goal
 
 pub rests-preserved : goal.rests-preserved

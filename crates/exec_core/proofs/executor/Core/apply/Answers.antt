@@ -1,5 +1,5 @@
 use Rattle.std.proofs.Common.{sym, ◌∙◌}
-use Rattle.exec_core.proofs.{Enabling.enabled_as, Playing.{applied, refused}, Taking.{asked, asked_again, on_err}}
+use Rattle.exec_core.proofs.{Applying.enabled_as, Steady.{applied, refused}, Taking.{asked, asked_again, on_err}}
 use Rattle.exec_core.proofs.executor.Core.apply.Goals as goal
 
 pub returns-then-not-may_take-clause-applies : goal.returns-then-not-may_take-clause-applies
@@ -15,14 +15,5 @@ returns-clause-applies g c = λ p x shows carries.
     applied g.B.Body.left g.B.Scripted.runs g.B.Scripted.holds g.B.Scripted.spot g.B.Body.name_of p x c.args.self.now c.take.new.self c.args.action c.in_ok-event.event c.args.body c.requires.ready.1.stands c.in_ok-event.ensures.stands.0 shows c.in_ok-event.ensures.keeps
     carries (c.in_ok-event.ensures.takes p shows.config shows.performs)
 
-pub returns-clause-asked : goal.returns-clause-asked
-returns-clause-asked g c = asked c.take.new.self c.in_ok-event.ensures.stands.0
-
-pub returns-then-not-may_take-clause-asked : goal.returns-then-not-may_take-clause-asked
-returns-then-not-may_take-clause-asked g c = asked c.args.self.now c.requires.ready.1.stands
-
 pub returns-in_err-event-clause-asked : goal.returns-in_err-event-clause-asked
 returns-in_err-event-clause-asked g c = asked_again g.B.Body.left g.B.Scripted.spot c.requires.ready.0 c.args.self.now c.take.new.self (asked c.args.self.now c.requires.ready.1.stands) c.in_err-event.ensures.same
-
-pub may_take-requires : goal.may_take-requires
-may_take-requires g c = record { asked = asked c.args.self.now c.requires.ready.1.stands }

@@ -1,11 +1,11 @@
 use Rattle.std.proofs.{Common.{refl, sym, ap, ◌∙◌}, lemmas.Option.slice_get_within}
 use Rattle.exec_parts.proofs.Facts.{same_Some}
-use Rattle.exec_core.proofs.{Applying.owner_there, Taking.{land_read, read_there}}
+use Rattle.exec_core.proofs.{Applying.owner_there, Taking.{lands_within, read_there}}
 use Rattle.exec_core.proofs.executor.Core.land.Goals as goal
 
 pub land-requires-clause-sound : goal.land-requires-clause-sound
 land-requires-clause-sound g c =
-    let there = land_read c.args.self.now c.args.request c.args.given c.index.result.now c.requires.enabled c.index.ensures in
+    let there = read_there c.args.self.now.shared.requests.items c.args.request c.index.result.now (lands_within c.args.self.now c.args.request c.args.given c.requires.enabled) c.index.ensures in
     let owner = owner_there c.args.self.now c.args.request c.index.result.now c.requires.stands there in
     let within = slice_get_within c.args.self.now.workers.items c.index.result.now.shown.worker owner.0 owner.1 in
     let was = read_there c.args.self.now.workers.items c.index.result.now.shown.worker c.index_mut.result.now within c.index_mut.ensures.value in
@@ -13,7 +13,7 @@ land-requires-clause-sound g c =
 
 pub land-requires-clause-mine : goal.land-requires-clause-mine
 land-requires-clause-mine g c = λ r found.
-    let there = land_read c.args.self.now c.args.request c.args.given c.index.result.now c.requires.enabled c.index.ensures in
+    let there = read_there c.args.self.now.shared.requests.items c.args.request c.index.result.now (lands_within c.args.self.now c.args.request c.args.given c.requires.enabled) c.index.ensures in
     let owner = owner_there c.args.self.now c.args.request c.index.result.now c.requires.stands there in
     let within = slice_get_within c.args.self.now.workers.items c.index.result.now.shown.worker owner.0 owner.1 in
     let was = read_there c.args.self.now.workers.items c.index.result.now.shown.worker c.index_mut.result.now within c.index_mut.ensures.value in
@@ -21,7 +21,7 @@ land-requires-clause-mine g c = λ r found.
 
 pub returns-clause-lands : goal.returns-clause-lands
 returns-clause-lands g c =
-    let there = land_read c.args.self.now c.args.request c.args.given c.index.result.now c.requires.enabled c.index.ensures in
+    let there = read_there c.args.self.now.shared.requests.items c.args.request c.index.result.now (lands_within c.args.self.now c.args.request c.args.given c.requires.enabled) c.index.ensures in
     let owner = owner_there c.args.self.now c.args.request c.index.result.now c.requires.stands there in
     let within = slice_get_within c.args.self.now.workers.items c.index.result.now.shown.worker owner.0 owner.1 in
     let was = read_there c.args.self.now.workers.items c.index.result.now.shown.worker c.index_mut.result.now within c.index_mut.ensures.value in

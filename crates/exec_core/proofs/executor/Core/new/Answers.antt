@@ -1,10 +1,6 @@
 use Rattle.std.proofs.Common.{◌≡◌, ◌≤◌, replicate, false, refl, sym, ap, subst, ◌∙◌, arith}
-use Rattle.exec_core.specs.{Configs.configuration_of, Firsts.{AllBegin, IsFirst}}
-use Rattle.exec_core.proofs.{Beginning.free_caller, CoreFirsts.with_store, Pacing.first_turns, Powers.in_range, Steady.first_rests, Started.{first_ready, first_shown}, Taking.asked}
+use Rattle.exec_core.{specs.{Configs.configuration_of, Firsts.{AllBegin, IsFirst}}, proofs.{Beginning.{free_caller, with_store, in_range}, Steady.{first_turns, first_rests}, Started.{first_ready, first_shown}, Taking.asked}}
 use Rattle.exec_core.proofs.executor.Core.new.Goals as goal
-
-pub first_workers-requires-clause-few : goal.first_workers-requires-clause-few
-first_workers-requires-clause-few g c = grind (arith, in_range)
 
 pub returns-clause-begins : goal.returns-clause-begins
 returns-clause-begins g c = λ p plan.

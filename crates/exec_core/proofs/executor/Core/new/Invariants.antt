@@ -1,5 +1,4 @@
-use Rattle.std.proofs.Common.{◌≡◌, ◌≤◌, replicate}
-use Rattle.std.specs.Prelude.{vec_capacity}
+use Rattle.std.{proofs.Common.{◌≡◌, ◌≤◌, replicate}, specs.Prelude.vec_capacity}
 use Rattle.exec_core.proofs.Beginning.{free_caller}
 use Rattle.exec_core.proofs.executor.Core.new.Given as goal
 

@@ -1,7 +1,6 @@
-use Rattle.std.proofs.Common.{refl, sym, ap, subst, ◌∙◌, arith}
-use Rattle.exec_parts.specs.Scripts.{Begins}
-use Rattle.exec_parts.proofs.Facts.{same_Some}
-use Rattle.exec_core.proofs.{CoreSpawns.{spawn_calls, spawn_keeps}, Taking.{call_whole, call_within, free_there, read_there}}
+use Rattle.std.proofs.Common.{refl, sym, ap, subst, ◌∙◌}
+use Rattle.exec_parts.{specs.Scripts.Begins, proofs.Facts.same_Some}
+use Rattle.exec_core.proofs.Taking.{spawn_calls, spawn_keeps, call_within, read_there}
 use Rattle.exec_core.proofs.executor.Core.spawn.Goals as goal
 
 pub spawn-spawned-requires-clause-sound : goal.spawn-spawned-requires-clause-sound
@@ -9,12 +8,6 @@ spawn-spawned-requires-clause-sound g c =
     let core = c.args.self.now in
     let there = read_there core.callers.items c.args.caller c.index_mut.result.now (call_within core c.args.caller c.requires.enabled) c.index_mut.ensures.value in
     c.requires.ready.1.stands.together.calls c.args.caller c.index_mut.result.now there
-
-pub spawn-spawned-requires-clause-free : goal.spawn-spawned-requires-clause-free
-spawn-spawned-requires-clause-free g c = grind (arith, read_there, call_within, free_there)
-
-pub spawn-spawned-requires-clause-whole : goal.spawn-spawned-requires-clause-whole
-spawn-spawned-requires-clause-whole g c = grind (arith, read_there, call_within, call_whole)
 
 pub returns-clause-calls : goal.returns-clause-calls
 returns-clause-calls g c =

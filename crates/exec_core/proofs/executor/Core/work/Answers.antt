@@ -1,32 +1,16 @@
-use Rattle.std.proofs.{Common.{◌≡◌, ◌++◌, true, None, IsSome, Result, Ok, Err, OnOk, is_ok, refl, sym, ap, ◌∙◌, arith, option_to_list, slice_set}, lemmas.{Bool.false≢true, List.append-nil}}
+use Rattle.std.proofs.{Common.{◌≡◌, ◌++◌, true, None, IsSome, Result, OnOk, is_ok, refl, sym, ap, ◌∙◌, arith, option_to_list, slice_set}, lemmas.{List.append-nil, Result.on_err_weaker}}
 use Rattle.exec_parts.specs.declared.parts.nursery.Nursery.{Nursery}
-use Rattle.exec_core.proofs.{Applying.let_on_there, Taking.{goes_there, none_by, read_in, whole_there, work_stays, work_steps, work_within}}
+use Rattle.exec_core.proofs.Taking.{none_by, work_steps, was_read, whole_there}
 use Rattle.exec_core.proofs.executor.Core.work.Goals as goal
 
 when_ok : {A E P : Type 0} (r : Result A E) → is_ok r ≡ true → OnOk r P → P
-when_ok (Ok x) ok so = so
-when_ok (Err e) ok so = absurd (false≢true ok)
+when_ok = grind arith
 
 pub step-stepped-requires-clause-sound : goal.step-stepped-requires-clause-sound
-step-stepped-requires-clause-sound g c =
-    let stands = c.requires.ready.1.stands in
-    let there = read_in c.args.self.now.workers.items c.reserve.new.self.items c.args.worker c.index_mut.result.now c.reserve.ensures.items (work_within c.args.self.now c.args.worker stands c.requires.enabled) c.index_mut.ensures.value in
-    (stands.together.sound c.args.worker c.index_mut.result.now there).1
+step-stepped-requires-clause-sound g c = (c.requires.ready.1.stands.together.sound c.args.worker c.index_mut.result.now (was_read c.args.self.now c.args.worker c.reserve.new.self.items c.index_mut.result.now c.requires.ready.1.stands c.requires.enabled c.reserve.ensures.items c.index_mut.ensures.value)).1
 
 pub step-stepped-requires-clause-whole : goal.step-stepped-requires-clause-whole
-step-stepped-requires-clause-whole g c =
-    let stands = c.requires.ready.1.stands in
-    let there = read_in c.args.self.now.workers.items c.reserve.new.self.items c.args.worker c.index_mut.result.now c.reserve.ensures.items (work_within c.args.self.now c.args.worker stands c.requires.enabled) c.index_mut.ensures.value in
-    whole_there c.args.self.now c.args.worker c.index_mut.result.now stands there
-
-pub step-stepped-requires-clause-going : goal.step-stepped-requires-clause-going
-step-stepped-requires-clause-going g c = grind (arith, read_in, work_within, goes_there)
-
-pub step-stepped-requires-clause-let_on : goal.step-stepped-requires-clause-let_on
-step-stepped-requires-clause-let_on g c =
-    let stands = c.requires.ready.1.stands in
-    let there = read_in c.args.self.now.workers.items c.reserve.new.self.items c.args.worker c.index_mut.result.now c.reserve.ensures.items (work_within c.args.self.now c.args.worker stands c.requires.enabled) c.index_mut.ensures.value in
-    let_on_there c.args.self.now c.args.worker c.index_mut.result.now stands there c.requires.enabled
+step-stepped-requires-clause-whole g c = whole_there c.args.self.now c.args.worker c.index_mut.result.now c.requires.ready.1.stands (was_read c.args.self.now c.args.worker c.reserve.new.self.items c.index_mut.result.now c.requires.ready.1.stands c.requires.enabled c.reserve.ensures.items c.index_mut.ensures.value)
 
 pub push_reserved-requires : goal.push_reserved-requires
 push_reserved-requires g c =
@@ -38,14 +22,14 @@ push_reserved-requires g c =
 pub returns-in-Some-clause-steps : goal.returns-in-Some-clause-steps
 returns-in-Some-clause-steps g c =
     let ready = c.requires.ready.1 in
-    let there = read_in c.args.self.now.workers.items c.reserve.new.self.items c.args.worker c.index_mut.result.now c.reserve.ensures.items (work_within c.args.self.now c.args.worker ready.stands c.requires.enabled) c.index_mut.ensures.value in
+    let there = was_read c.args.self.now c.args.worker c.reserve.new.self.items c.index_mut.result.now ready.stands c.requires.enabled c.reserve.ensures.items c.index_mut.ensures.value in
     let workers = c.push_reserved.ensures.items ∙ (λ k. slice_set (c.reserve.ensures.items k) c.args.worker c.step-stepped.new.worker ++ option_to_list (sym c.in-Some.is k)) in
     work_steps g.B.Body.left g.B.Scripted.runs g.B.Scripted.holds g.B.Scripted.spot c.args.worker c.args.self.now _ c.index_mut.result.now c.step-stepped.new.worker c.step-stepped.new.nursery.born c.step-stepped.result there workers refl c.is_err-self.ensures.value ready.unspent c.step-stepped.ensures.steps
 
 pub returns-in_default-clause-steps : goal.returns-in_default-clause-steps
 returns-in_default-clause-steps g c =
     let ready = c.requires.ready.1 in
-    let there = read_in c.args.self.now.workers.items c.reserve.new.self.items c.args.worker c.index_mut.result.now c.reserve.ensures.items (work_within c.args.self.now c.args.worker ready.stands c.requires.enabled) c.index_mut.ensures.value in
+    let there = was_read c.args.self.now c.args.worker c.reserve.new.self.items c.index_mut.result.now ready.stands c.requires.enabled c.reserve.ensures.items c.index_mut.ensures.value in
     let none : c.step-stepped.new.nursery.born ≡ None = none_by c.step-stepped.new.nursery.born c.in_default.not-Some in
     let workers = ap (λ xs. slice_set xs c.args.worker c.step-stepped.new.worker) c.reserve.ensures.items ∙ sym (append-nil (slice_set c.args.self.now.workers.items c.args.worker c.step-stepped.new.worker))
     ∙ ap (λ o. slice_set c.args.self.now.workers.items c.args.worker c.step-stepped.new.worker ++ option_to_list o) (sym none) in
@@ -54,5 +38,5 @@ returns-in_default-clause-steps g c =
 pub returns-in_default-clause-stays : goal.returns-in_default-clause-stays
 returns-in_default-clause-stays g c =
     let stands = c.requires.ready.1.stands in
-    let there = read_in c.args.self.now.workers.items c.reserve.new.self.items c.args.worker c.index_mut.result.now c.reserve.ensures.items (work_within c.args.self.now c.args.worker stands c.requires.enabled) c.index_mut.ensures.value in
-    work_stays g.B.Body.left g.B.Scripted.spot c.args.worker c.args.self.now _ c.index_mut.result.now c.step-stepped.new.worker c.step-stepped.result there (ap (λ xs. slice_set xs c.args.worker c.step-stepped.new.worker) c.reserve.ensures.items) refl c.step-stepped.ensures.same
+    let there = was_read c.args.self.now c.args.worker c.reserve.new.self.items c.index_mut.result.now stands c.requires.enabled c.reserve.ensures.items c.index_mut.ensures.value in
+    on_err_weaker c.step-stepped.result (λ same. record { before = c.index_mut.result.now; after = c.step-stepped.new.worker; was = there; workers = ap (λ xs. slice_set xs c.args.worker c.step-stepped.new.worker) c.reserve.ensures.items; callers = refl; same = same }) c.step-stepped.ensures.same

@@ -11,8 +11,7 @@ enrol-requires-clause-settled g c = settled _ c.sound.ensures.sound.ticks (c.enr
 
 pub enrolments-smaller : goal.enrolments-smaller
 enrolments-smaller g c =
-    let is : c.has_enrolments.result ≡ true = search rules in
-    (enrol_serves _ _ c.enrol.result _ _ _ c.sound.ensures.slots c.sound.ensures.reach c.sound.ensures.sound (sym c.has_enrolments.ensures ∙ is) c.enrol.ensures.first c.enrol.ensures.none c.enrol.ensures.enrolled).fewer
+    (enrol_serves _ _ c.enrol.result _ _ _ c.sound.ensures.slots c.sound.ensures.reach c.sound.ensures.sound (sym c.has_enrolments.ensures ∙ (search rules)) c.enrol.ensures.first c.enrol.ensures.none c.enrol.ensures.enrolled).fewer
 
 pub enrolments-preserved : goal.enrolments-preserved
 enrolments-preserved g c =

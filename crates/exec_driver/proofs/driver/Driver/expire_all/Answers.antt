@@ -8,8 +8,7 @@ due-init g c = (serves_itself _ _, NoStep)
 
 pub due-smaller : goal.due-smaller
 due-smaller g c =
-    let is : c.has_due.result ≡ true = search rules in
-    (expire_serves _ _ c.expire.result _ _ c.sound.ensures.sound (sym c.has_due.ensures ∙ is) c.expire.ensures.first c.expire.ensures.expired c.expire.ensures.told).fewer
+    (expire_serves _ _ c.expire.result _ _ c.sound.ensures.sound (sym c.has_due.ensures ∙ (search rules)) c.expire.ensures.first c.expire.ensures.expired c.expire.ensures.told).fewer
 
 pub due-preserved : goal.due-preserved
 due-preserved g c =

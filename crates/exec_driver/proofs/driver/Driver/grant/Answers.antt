@@ -6,33 +6,28 @@ use Rattle.exec_driver.proofs.driver.Driver.grant.Goals as goal
 
 pub acquire_durability-ended-requires : goal.acquire_durability-ended-requires
 acquire_durability-ended-requires g c =
-    let among : is_among c.in_ok-home.field-0.id c.self.inside.lists.gated ≡ true = search rules in
-    let there = gated_there _ c.in_ok-home.field-0.id c.self.invariant.sound among in
+    let there = gated_there _ c.in_ok-home.field-0.id c.self.invariant.sound (search rules) in
     record { lacks = rw there.at there.waits.lacks }
 
 pub invariant_of-self : goal.invariant_of-self
 invariant_of-self g c =
-    let among : is_among c.in_ok-home.field-0.id c.self.inside.lists.gated ≡ true = search rules in
-    let there = gated_there _ c.in_ok-home.field-0.id c.self.invariant.sound among in
+    let there = gated_there _ c.in_ok-home.field-0.id c.self.invariant.sound (search rules) in
     rw (c.acquire_durability-ended.ensures.permit, changed_is c.self.inside.waiters c.in_ok-home.field-0.id.0 there.w with_permit there.at, c.ungate.ensures) (held_permitted _ c.in_ok-home.field-0.id there.w _ _ _ there.at there.waits c.self.invariant)
 
 pub end-requires-clause-idle : goal.end-requires-clause-idle
 end-requires-clause-idle g c =
-    let among : is_among c.in_ok-home.field-0.id c.self.inside.lists.gated ≡ true = search rules in
-    let there = gated_there _ c.in_ok-home.field-0.id c.self.invariant.sound among in
+    let there = gated_there _ c.in_ok-home.field-0.id c.self.invariant.sound (search rules) in
     let one = one_changed c.self.inside.waiters c.in_ok-home.field-0.id.0 there.w (with_permit there.w) there.at in
     rw (c.acquire_durability-ended.ensures.permit, changed_is c.self.inside.waiters c.in_ok-home.field-0.id.0 there.w with_permit there.at, one.is_at, there.waits.idle) refl
 
 pub queue-requires : goal.queue-requires
 queue-requires g c =
-    let among : is_among c.in_ok-home.field-0.id c.self.inside.lists.gated ≡ true = search rules in
-    let there = gated_there _ c.in_ok-home.field-0.id c.self.invariant.sound among in
+    let there = gated_there _ c.in_ok-home.field-0.id c.self.invariant.sound (search rules) in
     record { room = rw c.ungate.ensures (room_to_grant _ c.in_ok-home.field-0.id there.w _ _ _ there.at there.waits c.self.invariant) }
 
 pub invariant_of-self-in-None : goal.invariant_of-self-in-None
 invariant_of-self-in-None g c =
-    let among : is_among c.in_ok-home.field-0.id c.self.inside.lists.gated ≡ true = search rules in
-    let there = gated_there _ c.in_ok-home.field-0.id c.self.invariant.sound among in
+    let there = gated_there _ c.in_ok-home.field-0.id c.self.invariant.sound (search rules) in
     rw (c.acquire_durability-ended.ensures.permit, changed_is c.self.inside.waiters c.in_ok-home.field-0.id.0 there.w with_permit there.at, c.queue.ensures, c.ungate.ensures) (held_granted _ c.in_ok-home.field-0.id there.w _ _ _ there.at there.waits c.self.invariant)
 
 pub returns-in-Some-clause-granted : goal.returns-in-Some-clause-granted
@@ -64,8 +59,7 @@ returns-in-Some-clause-punctual g c =
 
 pub returns-in-None-clause-punctual : goal.returns-in-None-clause-punctual
 returns-in-None-clause-punctual g c =
-    let among : is_among c.in_ok-home.field-0.id c.self.inside.lists.gated ≡ true = search rules in
-    let there = gated_there _ c.in_ok-home.field-0.id c.self.invariant.sound among in
+    let there = gated_there _ c.in_ok-home.field-0.id c.self.invariant.sound (search rules) in
     let one = one_changed c.self.inside.waiters c.in_ok-home.field-0.id.0 there.w (with_permit there.w) there.at in
     rw (← c.self.view_is, c.acquire_durability-ended.ensures.permit, changed_is c.self.inside.waiters c.in_ok-home.field-0.id.0 there.w with_permit there.at, c.queue.ensures, c.ungate.ensures)
     (punctual_one _ _ c.in_ok-home.field-0.id (Some there.w) (Some (with_permit there.w)) one (λ t is. is) refl refl)

@@ -1,4 +1,4 @@
-use Rattle.std.proofs.Common.{◌≡◌, ◌+◌, None, sym, ◌∙◌, arith, rules}
+use Rattle.std.proofs.Common.{◌+◌, None, sym, ◌∙◌, arith, rules}
 use Rattle.exec_driver.specs.{Driving.seen, Service.{NoGate, NextGate}}
 use Rattle.exec_driver.proofs.{Serving.{serves_itself, serves_both, done_itself, done_both}, Turns.{gate_from, added_tells}, Service.none_added}
 use Rattle.exec_driver.proofs.driver.Driver.grant_all.Goals as goal
@@ -22,9 +22,8 @@ gates-preserved g c =
 
 pub returns-in_default-checked_add-clause-grants : goal.returns-in_default-checked_add-clause-grants
 returns-in_default-checked_add-clause-grants g c =
-    let none : c.checked_add.result ≡ None = search rules in
     record {
       end = c.in-Some.file + 1;
       below = NextGate _ c.in-Some.file _ _ c.gates.invariant.2 (sym c.next_gate.ensures ∙ c.in-Some.is) c.grant_one.ensures.grants;
-      none = λ small. absurd (none_added c.in-Some.file c.checked_add.result c.checked_add.ensures none small);
+      none = λ small. absurd (none_added c.in-Some.file c.checked_add.result c.checked_add.ensures (search rules) small);
     }

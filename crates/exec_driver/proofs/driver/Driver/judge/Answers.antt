@@ -1,5 +1,5 @@
 use Rattle.std.proofs.Common.{◌≡◌, Some, None, sym, ap, ◌∙◌, refl, arith}
-use Rattle.exec_driver.proofs.{Words.{is_some, is_durable, Asked, asked_of, hinted_of, wheel_of, waiter_at, file_of, file_in, gate_in, account_in, with_account, open_after}, Endings.one_changed, Reaping.{held_landed, held_requeued, room_to_queue, permit_of, goes_on_uncancelled, named_there, landed_of, landed_permit, requeue_tells, complete_tells, outcome_same, some_given, tells_nothing, kept_of_open, told_over, ended_over, tells_over}, Arriving.durable_gated, Granting.same_some, Windows.{asked_same, deadline_same, file_same}}
+use Rattle.exec_driver.proofs.{Words.{is_some, is_durable, Asked, asked_of, hinted_of, wheel_of, waiter_at, file_of, file_in, gate_in, account_in, with_account, open_after}, Endings.one_changed, Reaping.{held_landed, held_requeued, room_to_queue, permit_of, goes_on_uncancelled, named_there, landed_of, requeue_tells, complete_tells, some_given, tells_nothing, kept_of_open, told_over, ended_over, tells_over}, Arriving.durable_gated, Granting.same_some, Stepping.permit_same, Windows.{asked_same, deadline_same, file_same}}
 use Rattle.exec_request.specs.{Judging.judged_as, Requests.cursor_of, States.told_by}
 use Rattle.exec_driver.proofs.driver.Driver.judge.Goals as goal
 
@@ -20,25 +20,25 @@ pub queue-requires : goal.queue-requires
 queue-requires g c =
     let there = named_there c.self.inside.waiters c.args.completion.user_data c.given-given.result _ _ c.in_ok-id.id c.named.ensures c.in_ok-id.was c.may_give.ensures c.if-not-may_give.false in
     let over = c.on_completion-outcome.ensures.completes c.in_ok-id.id.0 there.w there.is there.at in
-    let tells = requeue_tells c.in_ok-id.id.0 over.answer c.in-Requeue.id (outcome_same _ _ _ over.told_is c.in-Some.is ∙ c.in-Requeue.is) in
+    let tells = requeue_tells c.in_ok-id.id.0 over.answer c.in-Requeue.id (same_some _ _ _ over.told_is c.in-Some.is ∙ c.in-Requeue.is) in
     let active = goes_on_uncancelled (asked_of there.w.request) (cursor_of there.w.request) (judged_as (hinted_of there.w.request) there.w.state c.given-given.result) (sym (rw tells.0 at over.judges.next)) in
-    let permit = landed_permit there.w over.request (asked_same _ _ over.kept) ∙ permit_of _ c.in_ok-id.id there.w there.at there.flies c.self.invariant.sound in
+    let permit = permit_same there.w over.request (asked_same _ _ over.kept) ∙ permit_of _ c.in_ok-id.id there.w there.at there.flies c.self.invariant.sound in
     record { room = room_to_queue _ c.in_ok-id.id there.w over.request _ _ _ there.at there.flies active permit c.self.invariant }
 
 pub invariant_of-self-in-Requeue : goal.invariant_of-self-in-Requeue
 invariant_of-self-in-Requeue g c =
     let there = named_there c.self.inside.waiters c.args.completion.user_data c.given-given.result _ _ c.in_ok-id.id c.named.ensures c.in_ok-id.was c.may_give.ensures c.if-not-may_give.false in
     let over = c.on_completion-outcome.ensures.completes c.in_ok-id.id.0 there.w there.is there.at in
-    let tells = requeue_tells c.in_ok-id.id.0 over.answer c.in-Requeue.id (outcome_same _ _ _ over.told_is c.in-Some.is ∙ c.in-Requeue.is) in
+    let tells = requeue_tells c.in_ok-id.id.0 over.answer c.in-Requeue.id (same_some _ _ _ over.told_is c.in-Some.is ∙ c.in-Requeue.is) in
     let active = goes_on_uncancelled (asked_of there.w.request) (cursor_of there.w.request) (judged_as (hinted_of there.w.request) there.w.state c.given-given.result) (sym (rw tells.0 at over.judges.next)) in
-    let permit = landed_permit there.w over.request (asked_same _ _ over.kept) ∙ permit_of _ c.in_ok-id.id there.w there.at there.flies c.self.invariant.sound in
+    let permit = permit_same there.w over.request (asked_same _ _ over.kept) ∙ permit_of _ c.in_ok-id.id there.w there.at there.flies c.self.invariant.sound in
     rw (over.slab, c.reap-same.ensures.after, c.queue.ensures, ← tells.1) (held_requeued _ c.in_ok-id.id there.w over.request c.args.completion _ _ _ _ there.at there.flies active permit (deadline_same _ _ over.kept) (rw (← c.self.view_is) at c.requires.next) c.requires.operation c.self.invariant)
 
 pub end-requires-clause-idle : goal.end-requires-clause-idle
 end-requires-clause-idle g c =
     let there = named_there c.self.inside.waiters c.args.completion.user_data c.given-given.result _ _ c.in_ok-id.id c.named.ensures c.in_ok-id.was c.may_give.ensures c.if-not-may_give.false in
     let over = c.on_completion-outcome.ensures.completes c.in_ok-id.id.0 there.w there.is there.at in
-    let tells = complete_tells c.in_ok-id.id.0 over.answer c.in-Complete.id c.in-Complete.ended (outcome_same _ _ _ over.told_is c.in-Some.is ∙ c.in-Complete.is) in
+    let tells = complete_tells c.in_ok-id.id.0 over.answer c.in-Complete.id c.in-Complete.ended (same_some _ _ _ over.told_is c.in-Some.is ∙ c.in-Complete.is) in
     let one = one_changed c.self.inside.waiters c.in_ok-id.id.0 there.w (landed_of there.w over.request) there.at in
     rw (← tells.1, over.slab, one.is_at) refl
 
@@ -46,7 +46,7 @@ pub returns-in-Requeue-clause-reaps : goal.returns-in-Requeue-clause-reaps
 returns-in-Requeue-clause-reaps g c =
     let there = named_there c.self.inside.waiters c.args.completion.user_data c.given-given.result _ _ c.in_ok-id.id c.named.ensures c.in_ok-id.was c.may_give.ensures c.if-not-may_give.false in
     let over = c.on_completion-outcome.ensures.completes c.in_ok-id.id.0 there.w there.is there.at in
-    let tells = requeue_tells c.in_ok-id.id.0 over.answer c.in-Requeue.id (outcome_same _ _ _ over.told_is c.in-Some.is ∙ c.in-Requeue.is) in
+    let tells = requeue_tells c.in_ok-id.id.0 over.answer c.in-Requeue.id (same_some _ _ _ over.told_is c.in-Some.is ∙ c.in-Requeue.is) in
     rw (← c.self.view_is) (λ id w done at.
     let same-id : c.in_ok-id.id.0 ≡ id = same_some _ _ _ (some_given c.self.inside.waiters c.args.completion c.in_ok-id.id.0 _ there c.given-given.ensures) done in
     let here : waiter_at c.self.inside.waiters c.in_ok-id.id.0 ≡ Some w = rw same-id at in
@@ -67,7 +67,7 @@ pub returns-in-Complete-clause-reaps : goal.returns-in-Complete-clause-reaps
 returns-in-Complete-clause-reaps g c =
     let there = named_there c.self.inside.waiters c.args.completion.user_data c.given-given.result _ _ c.in_ok-id.id c.named.ensures c.in_ok-id.was c.may_give.ensures c.if-not-may_give.false in
     let over = c.on_completion-outcome.ensures.completes c.in_ok-id.id.0 there.w there.is there.at in
-    let tells = complete_tells c.in_ok-id.id.0 over.answer c.in-Complete.id c.in-Complete.ended (outcome_same _ _ _ over.told_is c.in-Some.is ∙ c.in-Complete.is) in
+    let tells = complete_tells c.in_ok-id.id.0 over.answer c.in-Complete.id c.in-Complete.ended (same_some _ _ _ over.told_is c.in-Some.is ∙ c.in-Complete.is) in
     let one = one_changed c.self.inside.waiters c.in_ok-id.id.0 there.w (landed_of there.w over.request) there.at in
     let now : waiter_at c.on_completion-outcome.new.self c.in-Complete.id.0 ≡ Some (landed_of there.w over.request) = rw (← tells.1, over.slab) one.is_at in
     let file : c.open_of-file.result ≡ file_of there.w.request = c.open_of-file.ensures ∙ ap file_in there.at in

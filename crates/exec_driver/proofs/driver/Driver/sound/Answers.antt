@@ -1,5 +1,4 @@
-use Rattle.exec_driver.proofs.Granting.{says_of}
-use Rattle.exec_driver.proofs.Punctual.{reach_of, turns_of, some_slots_of}
+use Rattle.exec_driver.proofs.{Granting.says_of, Punctual.{reach_of, turns_of, some_slots_of}}
 use Rattle.exec_driver.proofs.driver.Driver.sound.Goals as goal
 
 pub returns-clause-reach : goal.returns-clause-reach

@@ -1,6 +1,6 @@
 use Rattle.std.proofs.Common.{◌≡◌, true, sym, ◌∙◌, rules, arith}
 use Rattle.exec_driver.specs.{Driving.seen, Service.{NoStep, OneMore, Enter, Busy}}
-use Rattle.exec_driver.proofs.{Queues.{taken_answer, busy_answer}, Serving.{goes_itself, goes_both, goes_by, done_itself, done_both}, Turns.{enter_any, filled_less, not_full}, Service.{repeats_both}}
+use Rattle.exec_driver.proofs.{Entering.{taken_answer, busy_answer}, Serving.{goes_itself, goes_both, goes_by, done_itself, done_both}, Turns.{enter_any, filled_less, not_full}, Service.repeats_both}
 use Rattle.exec_driver.proofs.driver.Driver.stage_all.Goals as goal
 
 pub queues-init : goal.queues-init
@@ -8,12 +8,11 @@ queues-init g c = (goes_itself _, done_itself _, NoStep)
 
 pub queues-smaller : goal.queues-smaller
 queues-smaller g c =
-    let filled : c.stage_some.result ≡ true = search rules in
     let e = enter_any (seen c.stage_some.new.self) (seen c.enter-entered.new.self) c.enter-entered.ensures.entered in
     let free = taken_answer (seen c.stage_some.new.self).ring _ (sym c.enter-entered.ensures.answer ∙ c.in-Taken.is) in
     let size = e.1.size ∙ c.stage_some.ensures.going.size ∙ c.queues.invariant.0.size in
     let some = c.requires.ring in
-    filled_less (seen c.queues.self) (seen c.stage_some.new.self) (seen c.enter-entered.new.self) c.stage_some.ensures.less (c.stage_some.ensures.some filled) e.0.no_more (not_full (seen c.enter-entered.new.self) (omega (arith, size, some)) (e.1.taken free))
+    filled_less (seen c.queues.self) (seen c.stage_some.new.self) (seen c.enter-entered.new.self) c.stage_some.ensures.less (c.stage_some.ensures.some (search rules)) e.0.no_more (not_full (seen c.enter-entered.new.self) (omega (arith, size, some)) (e.1.taken free))
 
 pub queues-preserved : goal.queues-preserved
 queues-preserved g c =

@@ -1,4 +1,4 @@
-use Rattle.std.proofs.Common.{◌≡◌, true, false, rules}
+use Rattle.std.proofs.Common.{◌≡◌, true, rules}
 use Rattle.std.specs.Prelude.{is_none}
 use Rattle.exec_waiters.specs.States.{file_of}
 use Rattle.exec_driver.specs.Driving.{seen}
@@ -19,5 +19,4 @@ returns-then-is_none g c =
 
 pub returns-else-is_none-clause-stages : goal.returns-else-is_none-clause-stages
 returns-else-is_none-clause-stages g c =
-    let some : is_none c.stage_cancel.result ≡ false = search rules in
-    (cancel_entry _ _ _ c.stage_cancel.result c.requires.room some c.stage_cancel.ensures.first c.stage_cancel.ensures.staged, c.sound-else-is_none.ensures.says)
+    (cancel_entry _ _ _ c.stage_cancel.result c.requires.room (search rules) c.stage_cancel.ensures.first c.stage_cancel.ensures.staged, c.sound-else-is_none.ensures.says)

@@ -16,7 +16,6 @@ invariant_of-self-then-is_late g c =
     let wheel = on_ok c.reserve.result (sym c.is_err.ensures.value ∙ c.if-is_err.false) c.reserve.ensures.ok in
     let ready = ready_of (seen c.args.self.now) _ c.in-Ok.count (room_of c.reserve.new.self) same ring c.requires.places c.in-Ok.ensures.count lists wheel in
     let arrives : Arrives c.self.inside.waiters c.insert.new.self c.in_ok-id.id.0 (newcomer c.args.request c.args.observer) = record { slab = c.in_ok-id.ensures.inserted; next = c.in_ok-id.ensures.id; unnamed = c.in_ok-id.ensures.never_before; map = c.in_ok-id.ensures.map } in
-    let one = one_arrived _ _ _ _ arrives in
     held_arrived _ _ c.insert.new.self (wheel_of c.reserve.new.self) _ c.in_ok-id.id c.args.request c.args.observer c.in-Ok.count _ _ _ _ ready arrives c.reserve.ensures.same (joins_none _ _ _) refl (omega arith) c.self.invariant
 
 pub place-requires : goal.place-requires
@@ -109,7 +108,6 @@ returns-clause-spots g c = rw (← c.self.view_is) at c.make_places.ensures.ring
 
 pub returns-then-is_late-clause-gate : goal.returns-then-is_late-clause-gate
 returns-then-is_late-clause-gate g c =
-    let same = rw (← c.self.view_is) at c.make_places.ensures.same in
     let arrives : Arrives c.self.inside.waiters c.insert.new.self c.in_ok-id.id.0 (newcomer c.args.request c.args.observer) = record { slab = c.in_ok-id.ensures.inserted; next = c.in_ok-id.ensures.id; unnamed = c.in_ok-id.ensures.never_before; map = c.in_ok-id.ensures.map } in
     let one = one_arrived _ _ _ _ arrives in
     let is = c.refuse.ensures.ended (newcomer c.args.request c.args.observer) one.is_at in

@@ -1,6 +1,5 @@
 use Rattle.std.proofs.Common.{◌≡◌, ◌<◌, length, sym, ap, subst, ◌∙◌, arith}
-use Rattle.exec_run.specs.Script.{Played, held_by, place_by, newest}
-use Rattle.exec_run.proofs.Acts.{IsNext, makes, made_here, some_wanted, state_is, wanted, would_grow}
+use Rattle.exec_run.{proofs.Acts.{IsNext, makes, made_here, some_wanted, state_is, wanted, would_grow}, specs.Script.{Played, held_by, place_by, newest}}
 use Rattle.exec_run.proofs.script.ScriptBody.step.Goals as goal
 
 pub returns-in_default-clause-grows : goal.returns-in_default-clause-grows

@@ -1,12 +1,12 @@
 use Rattle.std.proofs.Common.{◌≡◌, Some, rules}
 use Rattle.exec_waiters.specs.States.{waiter_at}
-use Rattle.exec_waiters.proofs.{Changes.{kept_over, idle_tells}, Finishing.{finishes_here, here_of}}
+use Rattle.exec_waiters.proofs.{Changes.{kept_over, idle_tells}, Finishing.{finishes_here, here_of, held_here}}
 use Rattle.exec_waiters.proofs.waiters.Waiters.keep.Goals as goal
 
 pub invariant_of-self : goal.invariant_of-self
 invariant_of-self g c =
     let at : waiter_at c.self.inside.entries c.args.id.0 ≡ Some c.in-Pending.waiter = search rules in
-    kept_over _ _ c.in-Pending.waiter _ _ _ at (idle_tells _ _ at (rw (← c.self.view_is) at c.requires.idle)) c.self.invariant
+    kept_over _ _ c.in-Pending.waiter _ _ _ at (idle_tells _ _ at (rw (← c.self.view_is) at c.requires.idle)) (held_here c.in-Pending.waiter.observer (here_of _ c.in-Pending.waiter (rw c.self.view_is at at) c.requires.here)) c.self.invariant
 
 pub returns : goal.returns
 returns g c = λ waiter is.

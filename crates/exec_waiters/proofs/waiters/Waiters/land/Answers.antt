@@ -7,4 +7,4 @@ invariant_of-self g c =
     let w = c.waiter_mut-waiter.result.now in
     let at = c.waiter_mut-waiter.ensures.value in
     let asked = asked_after c.land.result _ c.args.given w.request c.land.new.request _ _ c.land.ensures.moved c.land.ensures.request in
-    kept_changed _ _ _ _ _ _ _ at refl (sound_moved w c.land.new.request asked (sound_at _ _ w _ _ at c.self.invariant)) c.self.invariant
+    kept_changed _ _ _ _ _ _ _ at refl (sound_moved w c.land.new.request asked (sound_at _ _ w _ _ at c.self.invariant)) (λ held. held) c.self.invariant

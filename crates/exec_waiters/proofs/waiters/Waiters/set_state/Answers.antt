@@ -5,4 +5,4 @@ use Rattle.exec_waiters.proofs.waiters.Waiters.set_state.Goals as goal
 pub invariant_of-self : goal.invariant_of-self
 invariant_of-self g c =
     let at = c.waiter_mut-waiter.ensures.value in
-    kept_changed _ _ _ _ _ _ _ at refl (sound_at _ _ _ _ _ at c.self.invariant) c.self.invariant
+    kept_changed _ _ _ _ _ _ _ at refl (sound_at _ _ _ _ _ at c.self.invariant) (λ held. held) c.self.invariant

@@ -7,4 +7,4 @@ invariant_of-self g c =
     let w = c.waiter_mut-waiter.result.now in
     let at = c.waiter_mut-waiter.ensures.value in
     let may = staging_tells _ w at (rw (← c.self.view_is) at c.requires.may) in
-    kept_changed _ _ _ _ _ _ _ at (rw may.0 (omega arith)) (sound_staged w c.build_sqe.new.self c.build_sqe.ensures.kept (sound_at _ _ _ _ _ at c.self.invariant) may.1) c.self.invariant
+    kept_changed _ _ _ _ _ _ _ at (rw may.0 (omega arith)) (sound_staged w c.build_sqe.new.self c.build_sqe.ensures.kept (sound_at _ _ _ _ _ at c.self.invariant) may.1) (λ held. held) c.self.invariant

@@ -1,8 +1,18 @@
-use Rattle.std.proofs.{Common.{◌≡◌, ◌++◌, ◌∷◌, [], refl, sym, ap, subst, ◌∙◌, arith, length}, lemmas.{Bool.false≢true, List.length-append}}
-use Rattle.exec_task.specs.{TaskSet.inserted, declared.runnable.Runnable.Runnable}
-use Rattle.exec_parts.specs.{Pooled.IsNewTask, Records.numbers_held}
-use Rattle.exec_parts.proofs.{Facts.same_Some, Newborn.new_task}
+use Rattle.std.proofs.{Common.{◌≡◌, ℕ, Some, None, false, ◌++◌, ◌∷◌, [], refl, sym, ap, subst, ◌∙◌, arith, length}, lemmas.{Bool.false≢true, List.length-append}}
+use Rattle.exec_task.specs.declared.{body.Said.TheVariants.Start, task.Phase.Phase}
+use Rattle.exec_parts.{specs.{Words.{TaskNo, Waiting, inserted, Runnable, shot}, Pooled.IsNewTask, Records.numbers_held, declared.parts.task_slot.TaskSlot.TaskSlot}, proofs.Facts.same_Some}
 use Rattle.exec_parts.proofs.parts.shared.Shared.make_task.Goals as goal
+
+-- what the slot of a task that was made is
+new_task : {B : Type 0} (x : TaskSlot B) (n : TaskNo) (id owner : ℕ) (body : B) → id ≡ owner → x.cell ≡ record { number = n; owner = id; phase = Phase.Queued body; cancelled = false } → numbers_held x.held.items ≡ []
+    → x ≡ record { cell = x.cell; body = None; told = Some Start; held = x.held; waiting = Waiting.Nothing; output = shot.Open; fresh = false; cleared = false; home = None; poller = 0 } → IsNewTask n owner body x
+new_task x n id owner body is cell held slot =
+    record {
+      cell = grind arith;
+      held = held;
+      output = ap (λ y. y.output) slot;
+      rest = grind arith;
+    }
 
 pub returns-clause-made : goal.returns-clause-made
 returns-clause-made g c =

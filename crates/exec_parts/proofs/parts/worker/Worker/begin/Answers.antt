@@ -1,7 +1,7 @@
-use Rattle.std.proofs.Common.{refl, subst}
+use Rattle.std.proofs.Common.{refl, subst, arith}
 use Rattle.exec_driver.specs.{Driving.seen, Steps.IsFresh}
 use Rattle.exec_machine.specs.Ranges.{horizon}
-use Rattle.exec_parts.specs.Records.{HasNoNames}
+use Rattle.exec_parts.{specs.Records.HasNoNames, proofs.LeafPowers.power_is}
 use Rattle.exec_parts.proofs.parts.worker.Worker.begin.Goals as goal
 
 pub returns-clause-begins : goal.returns-clause-begins
@@ -9,12 +9,14 @@ returns-clause-begins c =
     let k = c.args.configuration.now in
     let now = c.args.now in
     let home = c.in-Ok.ensures in
+    let p = c.next_power_of_two-size.ensures in
+    let size = power_is 15 k.ring _ p.power p.lower_bound p.upper_bound (omega (arith, c.requires.ranges.ring)) in
     record {
       parts = rw (c.in_ok-rooms.ensures.loot, c.in_ok-rooms.ensures.batch, c.new.ensures, c.new-2.ensures, c.spins_of.ensures) refl;
-      names = subst (λ n. HasNoNames n c.in_ok-rooms.rooms.names) c.ring_size-size.ensures c.in_ok-rooms.ensures.names;
+      names = subst (λ n. HasNoNames n c.in_ok-rooms.rooms.names) size c.in_ok-rooms.ensures.names;
       home = home.worker;
       opened = home.open;
-      driver = subst (λ n. IsFresh (seen c.in-Ok.home.driver) n (horizon k) k.tick now) c.ring_size-size.ensures home.fresh;
+      driver = subst (λ n. IsFresh (seen c.in-Ok.home.driver) n (horizon k) k.tick now) size home.fresh;
       punctual = home.punctual;
       asleep = home.asleep;
       untold = home.untold;

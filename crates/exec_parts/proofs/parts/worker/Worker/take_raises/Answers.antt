@@ -1,15 +1,11 @@
-use Rattle.std.proofs.Common.{◌≡◌, [], ℕ, suc, ◌-◌, ◌<◌, sym, ap, ◌∙◌, arith}
-use Rattle.exec_driver.specs.Driving.{Driving, seen}
-use Rattle.exec_ring.specs.Kernels.{with_wake}
-use Rattle.exec_parts.{specs.{declared.parts.{mail.Reply.Reply, seat.Seat.Seat as Chair, worker.Worker.Worker}, Pooled.with_raises, View.driver_of}}
+use Rattle.std.proofs.Common.{zero, ◌≡◌, [], ℕ, suc, ◌-◌, ◌<◌, ap, ◌∙◌, arith}
+use Rattle.exec_parts.specs.{Words.{Driving, seen, with_wake}, declared.parts.{mail.Reply.Reply, seat.Seat.Seat as Chair, worker.Worker.Worker}, Pooled.with_raises, View.driver_of}
 use Rattle.exec_parts.proofs.parts.worker.Worker.take_raises.Goals as goal
 
 -- one more wake is raised
 one_more : (n : ℕ) (d d' : Driving Reply Reply) → 0 < n → d' ≡ record d { ring = with_wake d.ring; landings = d'.landings } → d'.landings ≡ [] → d.landings ≡ [] → with_raises (n - 1) d' ≡ with_raises n d
-one_more n d d' some raised after before =
-    let is : d' ≡ record d { ring = with_wake d.ring } = raised ∙ ap (λ l. record d { ring = with_wake d.ring; landings = l }) (after ∙ sym before) in
-    let count : suc (n - 1) ≡ n = omega arith in
-    ap (with_raises (n - 1)) is ∙ ap (λ m. with_raises m d) count
+one_more zero d d' some raised after before = absurd (omega (arith, some))
+one_more (suc n) d d' some raised after before = grind arith
 
 pub loop-seat-preserved : goal.loop-seat-preserved
 loop-seat-preserved c =
