@@ -1,13 +1,6 @@
 -- No id is given twice, over any calls on a slab.
-use Rattle.std.proofs.Common.{◌≡◌, ℕ, ◌+◌, ◌^◌, ◌<◌, List, [], ◌∷◌, length, set, if◌then◌else◌, Option, Some, None, is_some, Bool, true, false, ltb, refl, ap, subst, ◌∙◌, inl, inr, arith}
-use Rattle.std.proofs.lemmas.List.{get_or_default, get_or_past, get_or-set_same}
-use Rattle.exec_base.specs.declared.slab.Id.{Id}
-use Rattle.exec_base.specs.declared.slab.Slot.{Slot}
-use Rattle.exec_base.specs.declared.slab.Slot.TheVariants.{Live, Vacant, Retired}
-use Rattle.exec_base.specs.Slab.{Slab, slot_at, value_at, generation_of, next_id, inserted, filled, removed, freed, written, IsPast}
-use Rattle.exec_base.specs.SlabLayout.{Lacks, AreVacant}
-use Rattle.exec_base.specs.SlabRuns.{Change, Insert, Remove, Write, IsNew, NoneTwice, empty_from, insert_at, after, given_then, ids_given}
-use Rattle.exec_base.proofs.Slots.{some_of_if, ltb_tells, vacant_within, AreVacant-set, Lacks-live, IsLiveAt-from_value, live_within, was_live, Changed, Changed-set, Changed-push, Changed-write, Fills, NextIs, TakesId-fill, new-from_fill, past-free, past-write}
+use Rattle.std.proofs.{Common.{◌≡◌, ℕ, ◌+◌, ◌^◌, ◌<◌, List, [], ◌∷◌, length, set, if◌then◌else◌, Option, Some, None, is_some, Bool, true, false, ltb, refl, ap, subst, ◌∙◌, inl, inr, arith}, lemmas.List.{get_or_default, get_or_past, get_or-set_same}}
+use Rattle.exec_base.{specs.{declared.slab.{Id.Id, Slot.{Slot, TheVariants.{Live, Vacant, Retired}}}, Slab.{Slab, slot_at, value_at, generation_of, next_id, inserted, filled, removed, freed, written, IsPast}, SlabLayout.{Lacks, AreVacant}, SlabRuns.{Change, Insert, Remove, Write, IsNew, NoneTwice, empty_from, insert_at, after, given_then, ids_given}}, proofs.Slots.{some_of_if, ltb_tells, vacant_within, AreVacant-set, Lacks-live, IsLiveAt-from_value, live_within, was_live, Changed, Changed-set, Changed-push, Changed-write, Fills, NextIs, TakesId-fill, new-from_fill, past-free, past-write}}
 
 module _ {T : Type 0} where
   -- the generation of a slot is one of 64 bits

@@ -1,15 +1,6 @@
 -- How a change of one slot keeps a slab's layout, and what it does to the map and to the past ids.
-use Rattle.std.proofs.Common.{◌≡◌, ◌≢◌, ◌⊎◌, ◌↔◌, ℕ, ◌+◌, ◌-◌, ◌^◌, ◌<◌, ◌≤◌, zero, suc, List, [], ◌∷◌, ◌++◌, length, get_or, set, slice_get, All, Some, None, IsSome, Bool, true, false, ltb, count_by, cond, reverse, refl, sym, ap, subst, ◌∙◌, inl, inr, arith, length-set}
-use Rattle.std.proofs.lemmas.List.{get_or_default, get_or_past, get_or_push, get_or_append_left, get_or-set_same, get_or-set_other, reverse-append}
-use Rattle.std.proofs.lemmas.List.Sums.{sum_by-set}
-use Rattle.std.proofs.lemmas.Option.{slice_get_cases}
-use Rattle.std.proofs.lemmas.Bool.{false≢true, lt-ltb, le-ltb, cases_Bool}
-use Rattle.std.proofs.lemmas.Bool.Decides.{eqb_tells}
-use Rattle.exec_base.specs.declared.slab.Id.{Id}
-use Rattle.exec_base.specs.declared.slab.Slot.{Slot}
-use Rattle.exec_base.specs.declared.slab.Slot.TheVariants.{Live, Vacant, Retired}
-use Rattle.exec_base.specs.Slab.{Slab, is_live, is_vacant, slot_at, value_at, value_in, generation_of, next_generation, next_index, freed, IsPast, TakesId, Updates, written}
-use Rattle.exec_base.specs.SlabLayout.{Lacks, IsVacantAt, AreVacant, ListsAll, IsLaidOut}
+use Rattle.std.proofs.{Common.{◌≡◌, ◌≢◌, ◌⊎◌, ◌↔◌, ℕ, ◌+◌, ◌-◌, ◌^◌, ◌<◌, ◌≤◌, zero, suc, List, [], ◌∷◌, ◌++◌, length, get_or, set, slice_get, All, Some, None, IsSome, Bool, true, false, ltb, count_by, cond, reverse, refl, sym, ap, subst, ◌∙◌, inl, inr, arith, length-set}, lemmas.{List.{get_or_default, get_or_past, get_or_push, get_or_append_left, get_or-set_same, get_or-set_other, reverse-append, Sums.sum_by-set}, Option.slice_get_cases, Bool.{false≢true, lt-ltb, le-ltb, cases_Bool, Decides.eqb_tells}}}
+use Rattle.exec_base.specs.{declared.slab.{Id.Id, Slot.{Slot, TheVariants.{Live, Vacant, Retired}}}, Slab.{Slab, is_live, is_vacant, slot_at, value_at, value_in, generation_of, next_generation, next_index, freed, IsPast, TakesId, Updates, written}, SlabLayout.{Lacks, IsVacantAt, AreVacant, ListsAll, IsLaidOut}}
 
 -- a comparison, with what it says
 pub ltb_tells : (a b : ℕ) → ((ltb a b ≡ true) × (a < b)) ⊎ ((ltb a b ≡ false) × (b ≤ a))

@@ -1,9 +1,6 @@
 -- The outcome words of the errors, as log lines have them.
 use Rattle.std.specs.Prelude.{ℕ, List, ◌++◌, codes, decimal}
-use Rattle.exec_base.specs.declared.error.Cause.{Cause}
-use Rattle.exec_base.specs.declared.error.Cause.TheVariants as cause
-use Rattle.exec_base.specs.declared.error.Error.{Error}
-use Rattle.exec_base.specs.declared.error.Error.TheVariants as error
+use Rattle.exec_base.specs.declared.error.{Cause.{Cause, Cause as cause}, Error.{Error, Error as error}}
 
 -- a cause's code in decimal, or its name
 abbrev pub cause_word : Cause → List ℕ

@@ -1,9 +1,6 @@
 -- What the calls of a one-shot answer, and how it stands after them.
 use Rattle.std.specs.Prelude.{ℕ, Option, Some, None, Result, Ok, Err}
-use Rattle.exec_base.specs.declared.error.Error.{Error}
-use Rattle.exec_base.specs.declared.error.Error.TheVariants as error
-use Rattle.exec_base.specs.declared.one_shot.OneShotState.{OneShotState}
-use Rattle.exec_base.specs.declared.one_shot.OneShotState.TheVariants.{Open, Sent, Closed}
+use Rattle.exec_base.specs.declared.{error.Error.{Error, Error as error}, one_shot.OneShotState.{OneShotState, TheVariants.{Open, Sent, Closed}}}
 
 module _ {T : Type 0} where
   -- the value comes back unless the one-shot is open

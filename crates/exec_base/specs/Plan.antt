@@ -1,8 +1,6 @@
 -- What a call does to the plan of an end in memory.
 use Rattle.std.specs.Prelude.{◌≡◌, ◌↔◌, Contains, Result, IsErr}
-use Rattle.exec_base.specs.Io.{one_more, CountsFault}
-use Rattle.exec_base.specs.declared.io.Failed.{Failed}
-use Rattle.exec_base.specs.declared.io.memory.Plan.{Plan}
+use Rattle.exec_base.specs.{Io.{one_more, CountsFault}, declared.io.{Failed.Failed, memory.Plan.Plan}}
 
 -- a call was counted, and failed exactly where its number was planned, which counted a fault
 pub record IsPlanned {T : Type 0} (old new : Plan) (outcome : Result T Failed) : Type 0 where

@@ -1,10 +1,6 @@
 -- What a contract sees of a slab: a map from live ids to values, the vacant slots, and the number of slots.
 use Rattle.std.specs.Prelude.{◌≡◌, ◌≢◌, ℕ, ◌+◌, ◌^◌, ◌<◌, ◌==◌, List, [], ◌∷◌, ◌++◌, ◌↔◌, ◌⊎◌, length, Option, Some, None, Bool, true, false, nat_lt, count_by, slice_index_or, slice_set, All, if◌then◌else◌}
-use Rattle.exec_base.specs.declared.slab.Id.{Id}
-use Rattle.exec_base.specs.declared.slab.Slot.{Slot}
-use Rattle.exec_base.specs.declared.slab.Slot.TheVariants.{Live, Vacant, Retired}
-use Rattle.exec_base.specs.declared.slab.InsertError.{InsertError}
-use Rattle.exec_base.specs.declared.slab.InsertError.TheVariants.{Full, NoMemory}
+use Rattle.exec_base.specs.declared.slab.{Id.Id, Slot.{Slot, TheVariants.{Live, Vacant, Retired}}, InsertError.{InsertError, TheVariants.{Full, NoMemory}}}
 
 -- the slots by index, the vacant ones in the order in which they are taken (the one freed last is the first),
 -- the generation at which a slot begins, and for how many slots there is memory

@@ -1,7 +1,6 @@
 -- Slabs to look at.
 use Rattle.std.specs.Prelude.{ℕ, ◌^◌, ◌-◌, []}
-use Rattle.exec_base.specs.declared.slab.Id.{Id}
-use Rattle.exec_base.specs.Slab.{Slab, inserted, removed}
+use Rattle.exec_base.specs.{declared.slab.Id.Id, Slab.{Slab, inserted, removed}}
 
 abbrev pub named : ℕ → ℕ → Id
 named index generation = record { index = index; generation = generation }

@@ -1,8 +1,6 @@
 -- How a slab lies in memory. No public clause cites this module.
 use Rattle.std.specs.Prelude.{◌≡◌, ◌≢◌, ℕ, ◌+◌, ◌^◌, ◌≤◌, List, [], ◌∷◌, length, count_by, slice_index_or, true, ◌⊎◌}
-use Rattle.exec_base.specs.declared.slab.Slot.{Slot}
-use Rattle.exec_base.specs.declared.slab.Slot.TheVariants.{Vacant, Retired}
-use Rattle.exec_base.specs.Slab.{is_live, is_vacant}
+use Rattle.exec_base.specs.{declared.slab.Slot.{Slot, TheVariants.{Vacant, Retired}}, Slab.{is_live, is_vacant}}
 
 -- the number isn't in the list
 abbrev pub Lacks : List ℕ → ℕ → Type 0

@@ -1,9 +1,6 @@
 -- What a slab ends as, where a `&mut` to one of its values is returned.
-use Rattle.std.specs.Prelude.{Option}
-use Rattle.std.specs.Borrow.{Lends, LendsIf, Fml, RattleType, MutBor}
-use Rattle.exec_base.specs.declared.slab.Id.{Id}
-use Rattle.exec_base.specs.Slab.{Slab, written}
-use Rattle.exec_base.specs.contracts.slab.Slab.{the_row}
+use Rattle.std.specs.{Prelude.Option, Borrow.{Lends, LendsIf, Fml, RattleType, MutBor}}
+use Rattle.exec_base.specs.{declared.slab.Id.Id, Slab.{Slab, written}, contracts.slab.Slab.the_row}
 
 module _ (T : RattleType) (s : MutBor (Slab T.Denot)) (id : Id) where
   -- once the borrow r ends, the id has the last value written through r

@@ -1,7 +1,6 @@
 -- Calls on a slab that change it, one after another, and the ids that they give.
 use Rattle.std.specs.Prelude.{◌≢◌, ℕ, List, [], ◌∷◌, Option, Some, None, is_some, if◌then◌else◌}
-use Rattle.exec_base.specs.declared.slab.Id.{Id}
-use Rattle.exec_base.specs.Slab.{Slab, value_at, next_id, inserted, removed, written}
+use Rattle.exec_base.specs.{declared.slab.Id.Id, Slab.{Slab, value_at, next_id, inserted, removed, written}}
 
 -- a call that changes a slab
 pub data Change (T : Type 0) : Type 0 where

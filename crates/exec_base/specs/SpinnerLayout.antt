@@ -1,7 +1,6 @@
 -- The fields of a spinner as what a contract sees, and the bounds that they keep.
 use Rattle.std.specs.Prelude.{◌≤◌}
-use Rattle.exec_base.specs.declared.spinner.Spinner.TheInside.{Inside}
-use Rattle.exec_base.specs.Spinner.{Spinner}
+use Rattle.exec_base.specs.{declared.spinner.Spinner.TheInside.Inside, Spinner.Spinner}
 
 abbrev pub spinner_of : Inside → Spinner
 spinner_of s = record {

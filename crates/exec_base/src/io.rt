@@ -14,8 +14,7 @@
 //!
 //! What an end holds is told where it is known: ends in memory know it, ends over std's reader and writer don't.
 
-ghost use Rattle.std.specs.Prelude.{◌≡◌, ℕ, ◌<◌, ◌≤◌, min, List, length, take, Option, IfOk, IfSome, OnOk, OnErr};
-ghost use Rattle.std.specs.Io.KnownBytes.{append_known};
+ghost use Rattle.std.specs.{Prelude.{◌≡◌, ℕ, ◌<◌, ◌≤◌, min, List, length, take, Option, IfOk, IfSome, OnOk, OnErr}, Io.KnownBytes.append_known};
 ghost use Rattle.exec_base.specs.Io.{Rose, Takes, one_more};
 
 mod memory;

@@ -16,8 +16,7 @@
 //! use.
 
 ghost use Rattle.std.specs.Prelude.{◌≡◌, Ok, Err, Some, None};
-ghost use Rattle.exec_base.specs.OneShot.{sent, polled, closed, send_answer, poll_answer, waiting};
-ghost use Rattle.exec_base.specs.declared.error.Error.TheVariants as error;
+ghost use Rattle.exec_base.specs.{OneShot.{sent, polled, closed, send_answer, poll_answer, waiting}, declared.error.Error.Error as error};
 ghost use Rattle.exec_base.specs.declared.one_shot.OneShotState.TheVariants as state;
 
 use crate::error::Error;

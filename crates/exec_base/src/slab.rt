@@ -19,9 +19,7 @@
 //! refused as `Full` only where each of 2^32 slots holds a value or is retired; `len` counts the live slots; and the
 //! list has memory for all slots, so `remove` takes none.
 
-ghost use Rattle.std.specs.Prelude.{◌≡◌, ◌+◌, ◌^◌, ◌<◌, ◌≤◌, ◌↔◌, length, [], Some, None, IsSome, IsTrue, IfOk, IfErr, OnErr, OnOk, IsNone, IfNone, OnSome, option_copied};
-ghost use Rattle.std.specs.Option.{option_copied_mut};
-ghost use Rattle.std.specs.Borrow.{Lends, sem};
+ghost use Rattle.std.specs.{Prelude.{◌≡◌, ◌+◌, ◌^◌, ◌<◌, ◌≤◌, ◌↔◌, length, [], Some, None, IsSome, IsTrue, IfOk, IfErr, OnErr, OnOk, IsNone, IfNone, OnSome, option_copied}, Option.option_copied_mut, Borrow.{Lends, sem}};
 
 mod laws;
 

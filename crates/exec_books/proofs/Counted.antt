@@ -1,10 +1,7 @@
 -- What holds of each request, and what a worker counts, after an event of a worker.
-use Rattle.std.proofs.Common.{◌≡◌, ℕ, ◌<◌, ◌==◌, Bool, true, false, length, None, refl, sym, ap, ◌∙◌, subst, inl, inr, arith}
-use Rattle.std.proofs.lemmas.Bool.{true≢false, eqb-true, eqb-false}
+use Rattle.std.proofs.{Common.{◌≡◌, ℕ, ◌<◌, ◌==◌, Bool, true, false, length, None, refl, sym, ap, ◌∙◌, subst, inl, inr, arith}, lemmas.Bool.{true≢false, eqb-true, eqb-false}}
 use Rattle.exec_machine.specs.{declared.{config.Configuration.Configuration, event.Event.Event}, After.{after, own_after}, Allowed.Allowed, Choice.Choice, Tests.{has_ended, is_asleep, is_of_file, is_resolved}, World.{Own as Books, World, own_of, request_of, seat_of, sleeper_of}}
-use Rattle.exec_books.specs.Listed.{is_in}
-use Rattle.exec_books.specs.Booked.{IsBooked, flying_of, unreleased_of}
-use Rattle.exec_books.proofs.{CountedFlight.{flying_elsewhere, flying_here}, CountedFresh.{each_request, each_sleeper}, CountedMany.{counted_elsewhere, counted_here}, CountedOver.over_live, CountedOwn.{other_own, own_own}, CountedSeats.no_fewer_seats, CountedWithin.{sleeps_within, untold_here, whose_within}, Own.IsOwn, Spares.{no_fewer, same_worker}}
+use Rattle.exec_books.{specs.{Listed.is_in, Booked.{IsBooked, flying_of, unreleased_of}}, proofs.{CountedFlight.{flying_elsewhere, flying_here}, CountedFresh.{each_request, each_sleeper}, CountedMany.{counted_elsewhere, counted_here}, CountedOver.over_live, CountedOwn.{other_own, own_own}, CountedSeats.no_fewer_seats, CountedWithin.{sleeps_within, untold_here, whose_within}, Own.IsOwn, Spares.{no_fewer, same_worker}}}
 
 module _ (c : Configuration) (w : World) (i : ℕ) (e : Event) (choice : Choice) (owns : length w.workers ≡ length w.common.seats) (here : i < length w.common.seats)
     (may : Allowed c (own_of w i) w.common i e choice) (own : IsOwn w.common i e) (held : IsBooked w) where

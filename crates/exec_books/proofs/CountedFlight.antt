@@ -1,14 +1,8 @@
 -- How many requests of a worker are in flight, after an event of a worker.
-use Rattle.std.proofs.Common.{◌≡◌, ◌≢◌, ℕ, ◌<◌, ◌==◌, ◌&&◌, ◌+◌, Bool, true, false, cond, List, [], ◌∷◌, ◌++◌, length, Option, refl, sym, ap, ◌∙◌, arith, get_or, set}
-use Rattle.std.proofs.lemmas.Bool.{true≢false, eq-eqb, ne_eqb, ltb-true, ltb-false}
-use Rattle.std.proofs.lemmas.List.{get_or_past}
-use Rattle.std.proofs.lemmas.List.Sums.{sum_by-set, sum_by_push}
-use Rattle.std.proofs.Math.Bool.{and-false}
+use Rattle.std.proofs.{Common.{◌≡◌, ◌≢◌, ℕ, ◌<◌, ◌==◌, ◌&&◌, ◌+◌, Bool, true, false, cond, List, [], ◌∷◌, ◌++◌, length, Option, refl, sym, ap, ◌∙◌, arith, get_or, set}, lemmas.{Bool.{true≢false, eq-eqb, ne_eqb, ltb-true, ltb-false}, List.{get_or_past, Sums.{sum_by-set, sum_by_push}}}, Math.Bool.and-false}
 use Rattle.exec_outcomes.specs.declared.outcome.{OpResult.OpResult, Outcome.Outcome}
-use Rattle.exec_machine.specs.{declared.{config.Configuration.Configuration, event.Event.Event, state.{Request.Request, RequestPhase.RequestPhase}}, After.{common_after, own_after}, Allowed.Allowed, Choice.Choice, Requests.{reaped, staged}, Tests.{is_in_flight, is_landed_with, is_queued, is_resolved}, World.{Common, Own as Books, no_request, request_of}}
-use Rattle.exec_machine.specs.declared.event.Event.TheVariants as event
-use Rattle.exec_books.specs.Booked.{flying_of}
-use Rattle.exec_books.proofs.{CountedFresh.{made, made_is, no_made}, CountedMany.{same_count, and_true}, CountedOwn.{in_flight_kept}, CountedTurns.{Turns, aground, moves_flight}, MinePhases.{landed_open, queued_open}, Own.IsOwn}
+use Rattle.exec_machine.specs.{declared.{config.Configuration.Configuration, event.Event.{Event, Event as event}, state.{Request.Request, RequestPhase.RequestPhase}}, After.{common_after, own_after}, Allowed.Allowed, Choice.Choice, Requests.{reaped, staged}, Tests.{is_in_flight, is_landed_with, is_queued, is_resolved}, World.{Common, Own as Books, no_request, request_of}}
+use Rattle.exec_books.{specs.Booked.flying_of, proofs.{CountedFresh.{made, made_is, no_made}, CountedMany.{same_count, and_true}, CountedOwn.in_flight_kept, CountedTurns.{Turns, aground, moves_flight}, MinePhases.{landed_open, queued_open}, Own.IsOwn}}
 
 -- ONE REQUEST
 

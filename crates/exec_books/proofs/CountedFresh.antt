@@ -1,10 +1,7 @@
 -- What an event of a worker leaves of each request and each sleeper, also of those that it makes.
-use Rattle.std.proofs.Common.{◌≡◌, ℕ, Bool, true, false, Option, None, refl, inl, arith}
-use Rattle.std.proofs.lemmas.Bool.{true≢false}
-use Rattle.std.specs.Prelude.{◌⊎◌}
-use Rattle.exec_outcomes.specs.declared.outcome.{Outcome.Outcome}
-use Rattle.exec_machine.specs.{declared.{config.{Configuration.Configuration, ScriptWord.ScriptWord}, event.Event.Event, state.{Forwarding.TheVariants.Unsent, Operation.Operation, Request.Request, Sleeper.Sleeper}}, After.{common_after}, Allowed.Allowed, Choice.Choice, Requests.{asked_now, new_request, operation_asked, operation_or_none, resolved_if, with_seen}, Tests.{is_in_flight, is_of_file}, Words.{next_word, polled_task}, World.{Common, Own as Books, request_of, sleeper_of}}
-use Rattle.exec_machine.specs.declared.event.Event.TheVariants as event
+use Rattle.std.{proofs.{Common.{◌≡◌, ℕ, Bool, true, false, Option, None, refl, inl, arith}, lemmas.Bool.true≢false}, specs.Prelude.◌⊎◌}
+use Rattle.exec_outcomes.specs.declared.outcome.Outcome.{Outcome}
+use Rattle.exec_machine.specs.{declared.{config.{Configuration.Configuration, ScriptWord.ScriptWord}, event.Event.{Event, Event as event}, state.{Forwarding.TheVariants.Unsent, Operation.Operation, Request.Request, Sleeper.Sleeper}}, After.common_after, Allowed.Allowed, Choice.Choice, Requests.{asked_now, new_request, operation_asked, operation_or_none, resolved_if, with_seen}, Tests.{is_in_flight, is_of_file}, Words.{next_word, polled_task}, World.{Common, Own as Books, request_of, sleeper_of}}
 use Rattle.exec_books.proofs.{CountedLeaves.leaves_each, CountedTurns.{Naps, Turns, each_push, napped, turned}}
 
 -- WHAT A WORD ASKS FOR: an operation of a file has no deadline

@@ -1,15 +1,8 @@
 -- What each event of a worker leaves of the requests and the sleepers that were there.
-use Rattle.std.proofs.Common.{◌≡◌, ℕ, ◌==◌, ◌&&◌, Bool, true, false, List, [], ◌∷◌, Option, Some, None, refl, sym, ap, subst, inl, inr, get_or, set, if◌then◌else◌, arith}
-use Rattle.std.proofs.lemmas.Bool.{true≢false, false≢true, cases_Bool, eq-eqb, not-true}
-use Rattle.exec_outcomes.specs.declared.outcome.{OpResult.OpResult, Outcome.Outcome}
-use Rattle.exec_outcomes.specs.Outcomes.{refuses_hint}
-use Rattle.exec_machine.specs.{declared.{config.Configuration.Configuration, event.Event.Event, state.{Forwarding.TheVariants.{Applied, Sent}, MailMessage.MailMessage, Next.Next, Request.Request, Sleeper.Sleeper, Waiting.Waiting}}}
-use Rattle.exec_machine.specs.{After.{common_after, polled}, Allowed.Allowed, Choice.{Choice, Payer, Choice.{Plain, Passes, Pays, Posts}}, Closing.{after_clear, after_next, ends_by_clear, gone_with, with_cleared}, Deadlines.{expired, outcome_at_expiry}, Mail.{after_message, after_post, after_sending, is_left_out, is_root_message, posted}, Same.{is_none, same_end}, Requests.{after_reap, staged, common_after_refusal, dropped, flown, granted, judged_of, reaped}, Tasks.{after_over, pended_phase, after_payment, after_pend, after_wake, after_word, removed, requests_after_drops, sleepers_after_waking_up}, Tests.{is_applied, is_landed_with, is_queued, set_seat, set_task}, World.{Common, Own as Books, no_request, no_sleeper, request_of, seat_of, sleeper_of, task_of}}
-use Rattle.exec_machine.specs.declared.event.Event.TheVariants as event
-use Rattle.exec_machine.specs.declared.state.MailMessage.TheVariants as message
-use Rattle.exec_machine.specs.declared.state.Waiting.TheVariants as waiting
-use Rattle.exec_books.proofs.CountedTurns.{IsPast, Naps, Turns, drop_turns, each_map, each_set, enrol_turns, expire_turns, fired_naps, flown_turns, goes_on, grant_turns, grants, marked, moves_flight, napped, naps_then, noted, reap_turns, removed_naps, same, turned, turns_then}
-use Rattle.exec_books.proofs.MinePhases.{queued_open}
+use Rattle.std.proofs.{Common.{◌≡◌, ℕ, ◌==◌, ◌&&◌, Bool, true, false, List, [], ◌∷◌, Option, Some, None, refl, sym, ap, subst, inl, inr, get_or, set, if◌then◌else◌, arith}, lemmas.Bool.{true≢false, false≢true, cases_Bool, eq-eqb, not-true}}
+use Rattle.exec_outcomes.specs.{declared.outcome.{OpResult.OpResult, Outcome.Outcome}, Outcomes.refuses_hint}
+use Rattle.exec_machine.specs.{declared.{config.Configuration.Configuration, event.Event.{Event, Event as event}, state.{Forwarding.TheVariants.{Applied, Sent}, MailMessage.{MailMessage, MailMessage as message}, Next.Next, Request.Request, Sleeper.Sleeper, Waiting.{Waiting, Waiting as waiting}}}, After.{common_after, polled}, Allowed.Allowed, Choice.{Choice, Payer, Choice.{Plain, Passes, Pays, Posts}}, Closing.{after_clear, after_next, ends_by_clear, gone_with, with_cleared}, Deadlines.{expired, outcome_at_expiry}, Mail.{after_message, after_post, after_sending, is_left_out, is_root_message, posted}, Same.{is_none, same_end}, Requests.{after_reap, staged, common_after_refusal, dropped, flown, granted, judged_of, reaped}, Tasks.{after_over, pended_phase, after_payment, after_pend, after_wake, after_word, removed, requests_after_drops, sleepers_after_waking_up}, Tests.{is_applied, is_landed_with, is_queued, set_seat, set_task}, World.{Common, Own as Books, no_request, no_sleeper, request_of, seat_of, sleeper_of, task_of}}
+use Rattle.exec_books.proofs.{CountedTurns.{IsPast, Naps, Turns, drop_turns, each_map, each_set, enrol_turns, expire_turns, fired_naps, flown_turns, goes_on, grant_turns, grants, marked, moves_flight, napped, naps_then, noted, reap_turns, removed_naps, same, turned, turns_then}, MinePhases.queued_open}
 
 -- OPEN PHASES
 

@@ -1,14 +1,8 @@
 -- How many requests of a worker are not released, after an event of a worker.
-use Rattle.std.proofs.Common.{◌≡◌, ◌≢◌, ℕ, zero, suc, ◌<◌, ◌==◌, ◌&&◌, ◌+◌, Bool, true, false, not, cond, List, [], ◌∷◌, ◌++◌, length, count_by, Option, refl, sym, ap, ◌∙◌, arith, get_or, set}
-use Rattle.std.proofs.lemmas.Bool.{true≢false, eq-eqb, ne_eqb, ltb-true, ltb-false, not-true}
-use Rattle.std.proofs.lemmas.List.{get_or_past}
-use Rattle.std.proofs.lemmas.List.Sums.{sum_by-cons, sum_by-set, sum_by_push}
-use Rattle.std.proofs.Math.Bool.{and-false}
-use Rattle.exec_outcomes.specs.declared.outcome.{Outcome.Outcome}
-use Rattle.exec_machine.specs.{declared.{config.Configuration.Configuration, event.Event.Event, state.Request.Request}, After.{common_after, own_after}, Allowed.Allowed, Choice.Choice, Requests.asked_now, World.{Common, Own as Books, no_request, request_of}}
-use Rattle.exec_machine.specs.declared.event.Event.TheVariants as event
-use Rattle.exec_books.specs.Booked.{unreleased_of}
-use Rattle.exec_books.proofs.{CountedFresh.{made, made_is, no_made}, CountedOwn.{admit_counts, counts, unreleased_kept}, CountedTurns.{Turns, releases}, Own.IsOwn}
+use Rattle.std.proofs.{Common.{◌≡◌, ◌≢◌, ℕ, zero, suc, ◌<◌, ◌==◌, ◌&&◌, ◌+◌, Bool, true, false, not, cond, List, [], ◌∷◌, ◌++◌, length, count_by, Option, refl, sym, ap, ◌∙◌, arith, get_or, set}, lemmas.{Bool.{true≢false, eq-eqb, ne_eqb, ltb-true, ltb-false, not-true}, List.{get_or_past, Sums.{sum_by-cons, sum_by-set, sum_by_push}}}, Math.Bool.and-false}
+use Rattle.exec_outcomes.specs.declared.outcome.Outcome.{Outcome}
+use Rattle.exec_machine.specs.{declared.{config.Configuration.Configuration, event.Event.{Event, Event as event}, state.Request.Request}, After.{common_after, own_after}, Allowed.Allowed, Choice.Choice, Requests.asked_now, World.{Common, Own as Books, no_request, request_of}}
+use Rattle.exec_books.{specs.Booked.unreleased_of, proofs.{CountedFresh.{made, made_is, no_made}, CountedOwn.{admit_counts, counts, unreleased_kept}, CountedTurns.{Turns, releases}, Own.IsOwn}}
 
 -- LISTS
 

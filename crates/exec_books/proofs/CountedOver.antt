@@ -1,11 +1,8 @@
 -- A worker that has ended has nothing after an event of a worker that hadn't.
-use Rattle.std.proofs.Common.{◌≡◌, ◌≢◌, ℕ, ◌<◌, ◌&&◌, Bool, true, false, not, length, refl, sym, ap, ◌∙◌, subst, inl, inr, arith}
-use Rattle.std.proofs.lemmas.Bool.{true≢false, eqb-true, ne_eqb}
-use Rattle.exec_machine.specs.{declared.{config.Configuration.Configuration, event.Event.Event, state.Sleeper.Sleeper}, After.after, Allowed.Allowed, Choice.Choice, Closing.gone_with, Tests.{has_ended, is_asleep}, World.{Own as Books, World, no_sleeper, own_of, seat_of, sleeper_of}}
-use Rattle.exec_machine.specs.declared.event.Event.TheVariants as event
+use Rattle.std.proofs.{Common.{◌≡◌, ◌≢◌, ℕ, ◌<◌, ◌&&◌, Bool, true, false, not, length, refl, sym, ap, ◌∙◌, subst, inl, inr, arith}, lemmas.Bool.{true≢false, eqb-true, ne_eqb}}
+use Rattle.exec_machine.specs.{declared.{config.Configuration.Configuration, event.Event.{Event, Event as event}, state.Sleeper.Sleeper}, After.after, Allowed.Allowed, Choice.Choice, Closing.gone_with, Tests.{has_ended, is_asleep}, World.{Own as Books, World, no_sleeper, own_of, seat_of, sleeper_of}}
 use Rattle.exec_rest.proofs.Events.{seats_after}
-use Rattle.exec_books.specs.Booked.{IsBooked}
-use Rattle.exec_books.proofs.{CountedFresh.each_sleeper, CountedOwn.{other_own, own_own}, CountedTurns.{each_map}}
+use Rattle.exec_books.{specs.Booked.IsBooked, proofs.{CountedFresh.each_sleeper, CountedOwn.{other_own, own_own}, CountedTurns.each_map}}
 
 not_for : (a f r : Bool) → a ≡ false → (a && not f && not r) ≡ false
 not_for a f r is = rw is refl

@@ -1,13 +1,8 @@
 -- What an event of a worker leaves of what each worker counts and hasn't told the kernel.
-use Rattle.std.proofs.Common.{◌≡◌, ◌≢◌, ℕ, zero, suc, ◌<◌, ◌==◌, ◌+◌, Bool, true, false, List, [], ◌∷◌, ◌++◌, length, Option, refl, sym, ◌∙◌, inl, inr, arith, get_or, if◌then◌else◌}
-use Rattle.std.proofs.lemmas.Bool.{true≢false, false≢true, eqb-true, or_cases, or_left, or_right}
-use Rattle.std.proofs.lemmas.List.{get_or_append_left, get_or-set_other, get_or-set_same, length-set}
-use Rattle.std.specs.Prelude.{◌⊎◌}
-use Rattle.exec_outcomes.specs.{declared.outcome.{Outcome.Outcome}}
-use Rattle.exec_machine.specs.{declared.{config.Configuration.Configuration, event.Event.Event, state.{MailMessage.MailMessage, Operation.Operation, Waiting.Waiting}}, After.{after, made_by, own_after, own_by}, Choice.{Choice}, Closing.{ends_by_clear, own_after_clear, own_after_turn}, Deadlines.sampled_now, Mail.{own_after_apply, own_after_letter}, Requests.{own_after_admit}, Same.is_none, Tasks.{own_after_drops, own_after_over, own_after_pend, own_after_waking_up}, World.{Common, Own as Books, World, no_own, own_of, task_of}}
-use Rattle.exec_machine.specs.declared.event.Event.TheVariants as event
-use Rattle.exec_books.specs.Listed.{is_in}
-use Rattle.exec_books.proofs.CountedTurns.{moves_flight}
+use Rattle.std.{proofs.{Common.{◌≡◌, ◌≢◌, ℕ, zero, suc, ◌<◌, ◌==◌, ◌+◌, Bool, true, false, List, [], ◌∷◌, ◌++◌, length, Option, refl, sym, ◌∙◌, inl, inr, arith, get_or, if◌then◌else◌}, lemmas.{Bool.{true≢false, false≢true, eqb-true, or_cases, or_left, or_right}, List.{get_or_append_left, get_or-set_other, get_or-set_same, length-set}}}, specs.Prelude.◌⊎◌}
+use Rattle.exec_outcomes.specs.declared.outcome.Outcome.{Outcome}
+use Rattle.exec_machine.specs.{declared.{config.Configuration.Configuration, event.Event.{Event, Event as event}, state.{MailMessage.MailMessage, Operation.Operation, Waiting.Waiting}}, After.{after, made_by, own_after, own_by}, Choice.Choice, Closing.{ends_by_clear, own_after_clear, own_after_turn}, Deadlines.sampled_now, Mail.{own_after_apply, own_after_letter}, Requests.own_after_admit, Same.is_none, Tasks.{own_after_drops, own_after_over, own_after_pend, own_after_waking_up}, World.{Common, Own as Books, World, no_own, own_of, task_of}}
+use Rattle.exec_books.{specs.Listed.is_in, proofs.CountedTurns.moves_flight}
 
 abbrev pub counts : Event → Bool
 counts (event.Admit r kind outcome) = true

@@ -1,18 +1,8 @@
 -- Seats after an event of a worker: none is lost, and a message stays under way but where it is applied.
-use Rattle.std.proofs.Common.{◌≡◌, ℕ, ◌<◌, ◌≤◌, ◌&&◌, Bool, true, false, List, [], ◌∷◌, ◌++◌, length, Option, Some, refl, ap, inl, inr, arith, get_or, set, if◌then◌else◌}
-use Rattle.std.proofs.lemmas.Bool.{false≢true, cases_Bool, or_cases, or_left, or_right}
-use Rattle.std.proofs.lemmas.List.{get_or_append_left, get_or-set_same, length-append, length-set}
-use Rattle.std.specs.Prelude.{drop}
-use Rattle.std.specs.List.{list_any}
-use Rattle.exec_machine.specs.declared.{config.Configuration.Configuration, event.Event.Event, state.{MailMessage.MailMessage, Next.Next}}
-use Rattle.exec_machine.specs.{After.common_after, Allowed.Allowed, Choice.{Choice, Choice.{Plain, Passes, Pays, Posts}}, Closing.{after_clear, after_next, ends_by_clear, with_closed_mailbox}, Deadlines.rest_until, Mail.{after_apply, after_message, after_post, after_sending, is_first_message, is_left_out, is_root_message, posted}, Same.same_message, Tasks.{after_pend, after_wake, after_word}, World.{Common, Own as Books, Seat, no_seat, seat_of, task_of}}
-use Rattle.exec_machine.specs.declared.event.Event.TheVariants as event
-use Rattle.exec_machine.specs.declared.state.MailMessage.TheVariants as message
-use Rattle.exec_machine.specs.declared.state.Next.TheVariants as next
+use Rattle.std.{proofs.{Common.{◌≡◌, ℕ, ◌<◌, ◌≤◌, ◌&&◌, Bool, true, false, List, [], ◌∷◌, ◌++◌, length, Option, Some, refl, ap, inl, inr, arith, get_or, set, if◌then◌else◌}, lemmas.{Bool.{false≢true, cases_Bool, or_cases, or_left, or_right}, List.{get_or_append_left, get_or-set_same, length-append, length-set}}}, specs.{Prelude.drop, List.list_any}}
+use Rattle.exec_machine.specs.{declared.{config.Configuration.Configuration, event.Event.{Event, Event as event}, state.{MailMessage.{MailMessage, MailMessage as message}, Next.{Next, Next as next}, WorkerPhase.WorkerPhase as worker}}, After.common_after, Allowed.Allowed, Choice.{Choice, Choice.{Plain, Passes, Pays, Posts}}, Closing.{after_clear, after_next, ends_by_clear, with_closed_mailbox}, Deadlines.rest_until, Mail.{after_apply, after_message, after_post, after_sending, is_first_message, is_left_out, is_root_message, posted}, Same.same_message, Tasks.{after_pend, after_wake, after_word}, World.{Common, Own as Books, Seat, no_seat, seat_of, task_of}}
+use Rattle.exec_books.{specs.Booked.IsUnderWay, proofs.CountedTurns.each_set}
 use Rattle.exec_machine.specs.declared.state.Rest.TheVariants as rest
-use Rattle.exec_machine.specs.declared.state.WorkerPhase.TheVariants as worker
-use Rattle.exec_books.specs.Booked.{IsUnderWay}
-use Rattle.exec_books.proofs.CountedTurns.{each_set}
 
 -- A MESSAGE IN AN INBOX
 

@@ -1,11 +1,7 @@
 -- What an event leaves of each request and each sleeper, told of one request and one sleeper.
-use Rattle.std.proofs.Common.{◌≡◌, ◌≢◌, ℕ, zero, suc, ◌==◌, ◌&&◌, ◌||◌, Bool, true, false, not, List, [], ◌∷◌, ◌++◌, length, map, Option, None, refl, sym, ap, ◌∙◌, inl, inr, arith, get_or, set}
-use Rattle.std.proofs.lemmas.Bool.{true≢false, and_parts}
-use Rattle.std.specs.Prelude.{◌⊎◌}
-use Rattle.exec_outcomes.specs.declared.outcome.{OpResult.OpResult, Outcome.{Outcome}}
-use Rattle.exec_machine.specs.{declared.{event.Event.Event, state.{Forwarding.TheVariants.Sent, Request.Request, RequestPhase.RequestPhase, Sleeper.Sleeper}}, Deadlines.{enrolled, expired}, Requests.{dropped, ends_by_drop, flown, granted, is_cancelled_by_drop, reaped}, Same.is_none, Tasks.removed, Tests.{is_asleep, is_gated, is_in_flight, is_of_file, is_queued, is_resolved}}
-use Rattle.exec_machine.specs.declared.event.Event.TheVariants as event
-use Rattle.exec_machine.specs.declared.state.MailMessage.TheVariants as message
+use Rattle.std.{proofs.{Common.{◌≡◌, ◌≢◌, ℕ, zero, suc, ◌==◌, ◌&&◌, ◌||◌, Bool, true, false, not, List, [], ◌∷◌, ◌++◌, length, map, Option, None, refl, sym, ap, ◌∙◌, inl, inr, arith, get_or, set}, lemmas.Bool.{true≢false, and_parts}}, specs.Prelude.◌⊎◌}
+use Rattle.exec_outcomes.specs.declared.outcome.{OpResult.OpResult, Outcome.Outcome}
+use Rattle.exec_machine.specs.{declared.{event.Event.{Event, Event as event}, state.{Forwarding.TheVariants.Sent, Request.Request, RequestPhase.RequestPhase, Sleeper.Sleeper, MailMessage.MailMessage as message}}, Deadlines.{enrolled, expired}, Requests.{dropped, ends_by_drop, flown, granted, is_cancelled_by_drop, reaped}, Same.is_none, Tasks.removed, Tests.{is_asleep, is_gated, is_in_flight, is_of_file, is_queued, is_resolved}}
 use Rattle.exec_books.proofs.MinePhases.{gated_open, queued_open}
 
 -- LISTS

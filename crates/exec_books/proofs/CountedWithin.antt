@@ -1,10 +1,7 @@
 -- Of which worker a request or a sleeper is, and which the kernel isn't told of.
-use Rattle.std.proofs.Common.{◌≡◌, ℕ, ◌<◌, true, length, arith}
-use Rattle.std.proofs.lemmas.Bool.{false≢true, ltb-true, ltb-false}
-use Rattle.std.proofs.lemmas.List.{get_or_past}
+use Rattle.std.proofs.{Common.{◌≡◌, ℕ, ◌<◌, true, length, arith}, lemmas.{Bool.{false≢true, ltb-true, ltb-false}, List.get_or_past}}
 use Rattle.exec_machine.specs.{declared.{config.Configuration.Configuration, event.Event.Event}, After.own_after, Allowed.Allowed, Choice.Choice, Tests.is_in_flight, World.{Common, Own as Books, request_of, sleeper_of}}
-use Rattle.exec_books.specs.Listed.{is_in}
-use Rattle.exec_books.proofs.{CountedOwn.{in_more, untold_kept}, Own.IsOwn}
+use Rattle.exec_books.{specs.Listed.is_in, proofs.{CountedOwn.{in_more, untold_kept}, Own.IsOwn}}
 
 -- past the end it is of worker zero, which there is
 module _ (s : Common) (i : ℕ) (here : i < length s.seats) where

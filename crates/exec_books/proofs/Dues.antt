@@ -1,12 +1,8 @@
 -- A worker that sleeps does so until what is due next, also after an event of a worker.
-use Rattle.std.proofs.Common.{◌≡◌, ◌≢◌, ℕ, ◌<◌, true, false, length, Option, sym, subst, inl, inr, arith}
-use Rattle.std.proofs.lemmas.Bool.{true≢false, cases_eq}
-use Rattle.std.proofs.lemmas.List.{get_or-set_same}
-use Rattle.std.specs.Prelude.{◌⊎◌}
+use Rattle.std.{proofs.{Common.{◌≡◌, ◌≢◌, ℕ, ◌<◌, true, false, length, Option, sym, subst, inl, inr, arith}, lemmas.{Bool.{true≢false, cases_eq}, List.get_or-set_same}}, specs.Prelude.◌⊎◌}
 use Rattle.exec_machine.specs.{declared.{config.Configuration.Configuration, event.Event.Event}, After.{after, common_after}, Allowed.Allowed, Choice.Choice, Deadlines.{is_after, next_due, rest_until}, Same.same_number, Tests.{is_awake, set_seat}, World.{Common, Own as Books, World, own_of, seat_of}}
 use Rattle.exec_rest.proofs.Events.{seats_after}
-use Rattle.exec_books.specs.Booked.{IsBooked}
-use Rattle.exec_books.proofs.{Own.IsOwn, DuesLists.{HasDue, dues_kept}, DuesAfter.event_dues}
+use Rattle.exec_books.{specs.Booked.IsBooked, proofs.{Own.IsOwn, DuesLists.{HasDue, dues_kept}, DuesAfter.event_dues}}
 
 same_moment : (m n : Option ℕ) → same_number m n ≡ true → m ≡ n
 same_moment = grind arith

@@ -1,15 +1,8 @@
 -- An event of another worker leaves what is due at a worker that sleeps.
-use Rattle.std.proofs.Common.{◌≡◌, ◌≢◌, ℕ, ◌==◌, true, false, ◌&&◌, List, [], ◌∷◌, Option, Some, refl, sym, ◌∙◌, inl, inr, set, arith}
-use Rattle.std.proofs.lemmas.Bool.{cases_Bool, eqb-true, ne_eqb}
-use Rattle.std.specs.Prelude.{drop}
-use Rattle.exec_outcomes.specs.declared.outcome.{OpResult.OpResult, Outcome.Outcome}
-use Rattle.exec_outcomes.specs.Outcomes.{refuses_hint}
-use Rattle.exec_machine.specs.{declared.{config.Configuration.Configuration, event.Event.Event, state.{MailMessage.MailMessage, Next.Next, Request.Request, Sleeper.Sleeper, Waiting.Waiting}}}
-use Rattle.exec_machine.specs.{After.{common_after, polled}, Choice.{Choice, Payer, Choice.{Plain, Passes, Pays, Posts}}, Closing.{after_clear, after_next, ends_by_clear, gone_with, with_cleared}, Deadlines.{expired, first_timer, first_until, rest_until}, Mail.{after_message, after_sending}, Requests.{after_reap, staged, common_after_refusal, dropped, flown, judged_of}, Tasks.{after_over, pended_phase, after_payment, after_pend, after_wake, after_word, requests_after_drops, sleepers_after_waking_up}, Tests.{is_staged, set_task}, World.{Common, Own as Books, Seat, request_of, seat_of, sleeper_of, task_of}}
-use Rattle.exec_machine.specs.declared.event.Event.TheVariants as event
-use Rattle.exec_books.proofs.Own.{IsOwn}
-use Rattle.exec_books.proofs.DuesLists.{Dues, Slept, Timed, beside, by_request, by_seats, by_sleeper, dues, dues_then, either, lies, posts, rouses, seat_apart, seat_push, slept_elsewhere, timed_elsewhere, timer_map, timer_push, timer_set, until_map, until_push, until_set}
-use Rattle.exec_books.proofs.Spares.{dropped_worker, granted_worker, enrolled_worker, reaped_worker, expired_worker, resolved_worker}
+use Rattle.std.{proofs.{Common.{◌≡◌, ◌≢◌, ℕ, ◌==◌, true, false, ◌&&◌, List, [], ◌∷◌, Option, Some, refl, sym, ◌∙◌, inl, inr, set, arith}, lemmas.Bool.{cases_Bool, eqb-true, ne_eqb}}, specs.Prelude.drop}
+use Rattle.exec_outcomes.specs.{declared.outcome.{OpResult.OpResult, Outcome.Outcome}, Outcomes.refuses_hint}
+use Rattle.exec_machine.specs.{declared.{config.Configuration.Configuration, event.Event.{Event, Event as event}, state.{MailMessage.MailMessage, Next.Next, Request.Request, Sleeper.Sleeper, Waiting.Waiting}}, After.{common_after, polled}, Choice.{Choice, Payer, Choice.{Plain, Passes, Pays, Posts}}, Closing.{after_clear, after_next, ends_by_clear, gone_with, with_cleared}, Deadlines.{expired, first_timer, first_until, rest_until}, Mail.{after_message, after_sending}, Requests.{after_reap, staged, common_after_refusal, dropped, flown, judged_of}, Tasks.{after_over, pended_phase, after_payment, after_pend, after_wake, after_word, requests_after_drops, sleepers_after_waking_up}, Tests.{is_staged, set_task}, World.{Common, Own as Books, Seat, request_of, seat_of, sleeper_of, task_of}}
+use Rattle.exec_books.proofs.{Own.IsOwn, DuesLists.{Dues, Slept, Timed, beside, by_request, by_seats, by_sleeper, dues, dues_then, either, lies, posts, rouses, seat_apart, seat_push, slept_elsewhere, timed_elsewhere, timer_map, timer_push, timer_set, until_map, until_push, until_set}, Spares.{dropped_worker, granted_worker, enrolled_worker, reaped_worker, expired_worker, resolved_worker}}
 
 flown_timed : (k i : ℕ) (r : Request) → Timed k r (flown i r)
 flown_timed k i r m = elim (cases_Bool ((r.worker == i) && is_staged r.phase)) [ inl flies ↦ rw flies refl | inr stays ↦ rw stays refl ]

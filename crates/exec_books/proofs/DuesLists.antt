@@ -1,9 +1,6 @@
 -- A worker that sleeps until a moment sleeps no longer than until what is due next at it.
-use Rattle.std.proofs.Common.{◌≡◌, ◌≢◌, ℕ, zero, suc, ◌==◌, Bool, true, false, List, [], ◌∷◌, ◌++◌, map, Option, Some, refl, sym, ap, ◌∙◌, subst, get_or, set, if◌then◌else◌, arith}
-use Rattle.std.proofs.lemmas.Bool.{true≢false}
-use Rattle.std.proofs.lemmas.List.{get_or-set_other}
-use Rattle.exec_machine.specs.declared.state.{MailMessage.MailMessage, Request.Request, Sleeper.Sleeper}
-use Rattle.exec_machine.specs.{Choice.{Choice}, Deadlines.{earlier, is_after, first_timer, first_until, next_due, rest_until}, Mail.{after_post, after_rouse}, Tasks.{new_seat}, Tests.{is_asleep, is_awake}, World.{Common, Seat, no_request, no_seat, no_sleeper, request_of, seat_of, sleeper_of}}
+use Rattle.std.proofs.{Common.{◌≡◌, ◌≢◌, ℕ, zero, suc, ◌==◌, Bool, true, false, List, [], ◌∷◌, ◌++◌, map, Option, Some, refl, sym, ap, ◌∙◌, subst, get_or, set, if◌then◌else◌, arith}, lemmas.{Bool.true≢false, List.get_or-set_other}}
+use Rattle.exec_machine.specs.{declared.state.{MailMessage.MailMessage, Request.Request, Sleeper.Sleeper}, Choice.Choice, Deadlines.{earlier, is_after, first_timer, first_until, next_due, rest_until}, Mail.{after_post, after_rouse}, Tasks.new_seat, Tests.{is_asleep, is_awake}, World.{Common, Seat, no_request, no_seat, no_sleeper, request_of, seat_of, sleeper_of}}
 use Rattle.exec_rest.proofs.Others.{set_like}
 
 -- worker i sleeps, where it does, until what is due next, which is ahead

@@ -1,12 +1,8 @@
 -- Each line of a run keeps the books.
-use Rattle.std.proofs.Common.{◌≡◌, ℕ, zero, suc, Bool, true, false, not, ◌&&◌, length, refl, sym, ap, ◌∙◌, get_or, arith}
-use Rattle.std.proofs.lemmas.Bool.{true≢false, false≢true, and_parts, not-true}
+use Rattle.std.proofs.{Common.{◌≡◌, ℕ, zero, suc, Bool, true, false, not, ◌&&◌, length, refl, sym, ap, ◌∙◌, get_or, arith}, lemmas.Bool.{true≢false, false≢true, and_parts, not-true}}
 use Rattle.exec_machine.specs.{declared.{config.Configuration.Configuration, event.{Event.Event, StepResult.{StepResult, TheVariants.{Refused, Did}}}, state.Forwarding.{Forwarding, TheVariants.Sent}, step.Action.{Action, TheVariants.Work}}, After.after, Allowed.Allowed, Callers.{is_enabled, is_held}, Choice.Choice, Progress.{Plan, begin}, Run.{Follows, after_line, first_owns}, Tasks.new_seat, Tests.{has_ended, is_asleep, is_awake}, World.{Seat, World, no_open, no_own, no_seat, no_sleeper, own_of, seat_of}}
-use Rattle.exec_books.specs.Listed.{is_in}
-use Rattle.exec_books.proofs.Listed.{no_listed}
+use Rattle.exec_books.{specs.{Listed.is_in, Booked.{FirstIsOwn, IsBooked, IsLed}}, proofs.{Listed.no_listed, Own.own_by_mail, Standing.listed_then, Counted.{counted_then, flying_then, let_go_then, over_then, requests_then, sleepers_then, timed_then, undated_then, untold_then}, Led.opens_led, Lined.lined_up_then, Mailed.{sent_then, sent_too_then}, Dues.dues_then, Others.booked_by_other}}
 use Rattle.exec_rest.proofs.{FactsA.seated, First.of_equal}
-use Rattle.exec_books.specs.Booked.{FirstIsOwn, IsBooked, IsLed}
-use Rattle.exec_books.proofs.{Own.own_by_mail, Standing.listed_then, Counted.{counted_then, flying_then, let_go_then, over_then, requests_then, sleepers_then, timed_then, undated_then, untold_then}, Led.opens_led, Lined.lined_up_then, Mailed.{sent_then, sent_too_then}, Dues.dues_then, Others.booked_by_other}
 
 -- THE FIRST STATE: no worker has anything, and each is awake
 

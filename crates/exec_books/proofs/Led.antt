@@ -1,13 +1,9 @@
 -- Where nobody has the permit of an open nobody waits for it, also after an event of a worker.
 use Rattle.std.proofs.Common.{ℕ, Bool, true, false, List, Option, Some, None, refl, sym, subst, arith, get_or, set, if◌then◌else◌}
-use Rattle.exec_outcomes.specs.declared.outcome.{Kind.{Kind}, OpResult.OpResult, Outcome.Outcome}
-use Rattle.exec_machine.specs.{declared.{config.Configuration.Configuration, event.Event.Event, state.{Next.Next, Operation.Operation, Request.Request}}, After.common_after, Allowed.Allowed, Choice.{Choice, Choice.Passes}, Closing.after_next, Requests.{common_after_refusal, judged_of, open_after_end, open_joined_by, opens_after_end, outcome_given, passed_on}, Tests.is_of_file, World.{Common, Open, Own as Books, no_open, open_of, request_of}}
-use Rattle.exec_outcomes.specs.Outcomes.{refuses_hint}
-use Rattle.exec_machine.specs.declared.event.Event.TheVariants as event
-use Rattle.exec_machine.specs.declared.state.Next.TheVariants as next
+use Rattle.exec_outcomes.specs.{declared.outcome.{Kind.Kind, OpResult.OpResult, Outcome.Outcome}, Outcomes.refuses_hint}
+use Rattle.exec_machine.specs.{declared.{config.Configuration.Configuration, event.Event.{Event, Event as event}, state.{Next.{Next, Next as next}, Operation.Operation, Request.Request}}, After.common_after, Allowed.Allowed, Choice.{Choice, Choice.Passes}, Closing.after_next, Requests.{common_after_refusal, judged_of, open_after_end, open_joined_by, opens_after_end, outcome_given, passed_on}, Tests.is_of_file, World.{Common, Open, Own as Books, no_open, open_of, request_of}}
 use Rattle.exec_rest.proofs.Others.{set_like}
-use Rattle.exec_books.specs.Booked.{IsLed}
-use Rattle.exec_books.proofs.Reach.{opens_left}
+use Rattle.exec_books.{specs.Booked.IsLed, proofs.Reach.opens_left}
 
 -- ONE OPEN
 

@@ -1,14 +1,9 @@
 -- Who stands at the gate of an open, after an event of a worker.
-use Rattle.std.proofs.Common.{◌≡◌, ◌≢◌, ℕ, ◌<◌, Bool, true, false, List, length, Option, Some, None, refl, sym, ap, ◌∙◌, subst, inl, inr, arith, get_or, set, if◌then◌else◌}
-use Rattle.std.proofs.lemmas.Bool.{true≢false, false≢true, and_parts, cases_eq, cases_lt, eqb-true, eq-eqb, or_cases, or_left, or_right}
-use Rattle.std.proofs.lemmas.List.{get_or-set_same, get_or_past, set_past}
-use Rattle.std.specs.Prelude.{◌⊎◌}
+use Rattle.std.{proofs.{Common.{◌≡◌, ◌≢◌, ℕ, ◌<◌, Bool, true, false, List, length, Option, Some, None, refl, sym, ap, ◌∙◌, subst, inl, inr, arith, get_or, set, if◌then◌else◌}, lemmas.{Bool.{true≢false, false≢true, and_parts, cases_eq, cases_lt, eqb-true, eq-eqb, or_cases, or_left, or_right}, List.{get_or-set_same, get_or_past, set_past}}}, specs.Prelude.◌⊎◌}
 use Rattle.exec_outcomes.specs.{declared.outcome.{Kind.{Kind, TheVariants.Write}, OpResult.OpResult, Outcome.Outcome}, Accounts.{Account, is_durable}, Outcomes.refuses_hint}
-use Rattle.exec_machine.specs.{declared.{config.Configuration.Configuration, event.Event.Event, state.{Next.Next, Operation.Operation, Request.Request}}, After.{after, common_after, own_after}, Allowed.Allowed, Choice.{Choice, Choice.Passes}, Closing.after_next, Requests.{account_of_open, after_join, asked_now, common_after_refusal, judged_of, new_request, open_after_end, open_joined_by, opens_after_end, outcome_given, outcome_shown, own_after_admit, passed_on, reaped, resolved, resolved_if, with_seen}, Same.{is_number, same_end, same_kind}, Tests.{is_gated, is_of_file, is_resolved}, World.{Common, Open, Own as Books, World, no_open, no_request, open_of, own_of, request_of}}
-use Rattle.exec_machine.specs.declared.event.Event.TheVariants as event
+use Rattle.exec_machine.specs.{declared.{config.Configuration.Configuration, event.Event.{Event, Event as event}, state.{Next.Next, Operation.Operation, Request.Request}}, After.{after, common_after, own_after}, Allowed.Allowed, Choice.{Choice, Choice.Passes}, Closing.after_next, Requests.{account_of_open, after_join, asked_now, common_after_refusal, judged_of, new_request, open_after_end, open_joined_by, opens_after_end, outcome_given, outcome_shown, own_after_admit, passed_on, reaped, resolved, resolved_if, with_seen}, Same.{is_number, same_end, same_kind}, Tests.{is_gated, is_of_file, is_resolved}, World.{Common, Open, Own as Books, World, no_open, no_request, open_of, own_of, request_of}}
+use Rattle.exec_books.{specs.Booked.{AreLinedUp, IsBooked, IsLinedUp, stands_at}, proofs.{CountedFresh.no_made, CountedLeaves.landed_past, CountedOwn.own_own, CountedTurns.{IsPast, Turns, each_push, each_set, grants, turned}, CountedWithin.whose_within, Listed.{in_front, in_last}, MinePhases.gated_open, Own.IsOwn, Reach.{opens_left, opens_long}, Standing.own_apart}}
 use Rattle.exec_machine.specs.declared.state.Next.TheVariants as next
-use Rattle.exec_books.specs.{Booked.{AreLinedUp, IsBooked, IsLinedUp, stands_at}}
-use Rattle.exec_books.proofs.{CountedFresh.{no_made}, CountedLeaves.landed_past, CountedOwn.own_own, CountedTurns.{IsPast, Turns, each_push, each_set, grants, turned}, CountedWithin.whose_within, Listed.{in_front, in_last}, MinePhases.gated_open, Own.IsOwn, Reach.{opens_left, opens_long}, Standing.own_apart}
 
 -- ONE OPEN
 

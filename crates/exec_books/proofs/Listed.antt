@@ -1,9 +1,6 @@
 -- Each request stands in the lists in which it waits for something, also after one changed.
-use Rattle.std.proofs.Common.{◌≡◌, ℕ, ◌==◌, Bool, true, false, not, List, [], ◌∷◌, ◌++◌, filter, drop, refl, inl, inr, arith}
-use Rattle.std.proofs.lemmas.Bool.{false≢true, or_cases, or_left, or_right, eq-eqb, eqb-true}
-use Rattle.std.specs.Prelude.{slice_get}
-use Rattle.exec_machine.specs.{declared.state.Request.Request, Requests.{joined_if, left_if}, Same.{is_number}, World.{Own as Books, no_request}}
-use Rattle.exec_machine.specs.declared.state.RequestPhase.TheVariants as phase
+use Rattle.std.{proofs.{Common.{◌≡◌, ℕ, ◌==◌, Bool, true, false, not, List, [], ◌∷◌, ◌++◌, filter, drop, refl, inl, inr, arith}, lemmas.Bool.{false≢true, or_cases, or_left, or_right, eq-eqb, eqb-true}}, specs.Prelude.slice_get}
+use Rattle.exec_machine.specs.{declared.state.{Request.Request, RequestPhase.RequestPhase as phase}, Requests.{joined_if, left_if}, Same.is_number, World.{Own as Books, no_request}}
 use Rattle.exec_outcomes.specs.declared.outcome.Outcome.{Outcome}
 use Rattle.exec_books.specs.Listed.{IsListed, is_in}
 

@@ -1,12 +1,7 @@
 -- What was sent of a request or a sleeper is under way until it is applied, also after an event of a worker.
-use Rattle.std.proofs.Common.{◌≡◌, ℕ, zero, suc, ◌<◌, Bool, true, List, [], ◌∷◌, length, refl, sym, ap, ◌∙◌, subst, inl, inr, arith, get_or, set}
-use Rattle.std.proofs.lemmas.Bool.{true≢false, false≢true, cases_Bool, eqb-true}
-use Rattle.std.specs.Prelude.{◌⊎◌}
-use Rattle.exec_machine.specs.{declared.{config.Configuration.Configuration, event.Event.Event, state.{Forwarding.{Forwarding, TheVariants.{Applied, Sent, Unsent}}, MailMessage.MailMessage}}, After.{after, common_after}, Allowed.Allowed, Choice.Choice, Mail.{after_sending, posted}, Same.same_message, Tests.{is_applied, is_unsent}, World.{Common, Own as Books, World, no_request, no_sleeper, own_of, request_of, seat_of, sleeper_of}}
-use Rattle.exec_machine.specs.declared.event.Event.TheVariants as event
-use Rattle.exec_machine.specs.declared.state.MailMessage.TheVariants as message
-use Rattle.exec_books.specs.Booked.{IsBooked, IsUnderWay}
-use Rattle.exec_books.proofs.{CountedFresh.{each_request, each_sleeper}, CountedSeats.{posted_there, sending_same, stays_under_way, takes_from}, CountedTurns.{tells, tells_timer}, CountedWithin.{sleeps_within, whose_within}, Own.IsOwn}
+use Rattle.std.{proofs.{Common.{◌≡◌, ℕ, zero, suc, ◌<◌, Bool, true, List, [], ◌∷◌, length, refl, sym, ap, ◌∙◌, subst, inl, inr, arith, get_or, set}, lemmas.Bool.{true≢false, false≢true, cases_Bool, eqb-true}}, specs.Prelude.◌⊎◌}
+use Rattle.exec_machine.specs.{declared.{config.Configuration.Configuration, event.Event.{Event, Event as event}, state.{Forwarding.{Forwarding, TheVariants.{Applied, Sent, Unsent}}, MailMessage.{MailMessage, MailMessage as message}}}, After.{after, common_after}, Allowed.Allowed, Choice.Choice, Mail.{after_sending, posted}, Same.same_message, Tests.{is_applied, is_unsent}, World.{Common, Own as Books, World, no_request, no_sleeper, own_of, request_of, seat_of, sleeper_of}}
+use Rattle.exec_books.{specs.Booked.{IsBooked, IsUnderWay}, proofs.{CountedFresh.{each_request, each_sleeper}, CountedSeats.{posted_there, sending_same, stays_under_way, takes_from}, CountedTurns.{tells, tells_timer}, CountedWithin.{sleeps_within, whose_within}, Own.IsOwn}}
 
 -- what is set so is not sent
 not_sent : {X : Type 0} (f : X → Forwarding) (xs : List X) (k : ℕ) (y d : X) → f y ≡ Applied → f d ≡ Unsent → f (get_or (set xs k y) k d) ≡ Sent → ⊥

@@ -1,15 +1,8 @@
 -- The requests of a worker stand in its lists after an event of its own.
-use Rattle.std.proofs.Common.{◌≡◌, ℕ, ◌<◌, Bool, true, false, length, set, Option, Some, None, if◌then◌else◌, ◌∙◌, refl, sym, ap, arith}
-use Rattle.std.proofs.lemmas.Bool.{ltb-true, ltb-false}
-use Rattle.std.proofs.lemmas.Grind.{get_or-set_at}
-use Rattle.std.proofs.lemmas.List.{set_past}
-use Rattle.exec_machine.specs.{declared.{config.Configuration.Configuration, event.Event.Event, state.{MailMessage.MailMessage, Request.Request}}, After.{common_after, own_after}, Allowed.Allowed, Choice.{Choice, Choice.{Plain, Passes, Pays, Posts}}, Closing.{ends_by_clear, with_cleared}, Mail.{after_sending, own_after_letter}, Tasks.{after_over, own_after_over, requests_after_drops}, World.{Common, Own as Books, request_of, seat_of, task_of}}
-use Rattle.exec_machine.specs.declared.event.Event.TheVariants as event
-use Rattle.exec_machine.specs.declared.state.MailMessage.TheVariants as message
-use Rattle.exec_books.specs.Listed.{IsListed}
+use Rattle.std.proofs.{Common.{◌≡◌, ℕ, ◌<◌, Bool, true, false, length, set, Option, Some, None, if◌then◌else◌, ◌∙◌, refl, sym, ap, arith}, lemmas.{Bool.{ltb-true, ltb-false}, Grind.get_or-set_at, List.set_past}}
+use Rattle.exec_machine.specs.{declared.{config.Configuration.Configuration, event.Event.{Event, Event as event}, state.{MailMessage.{MailMessage, MailMessage as message}, Request.Request}}, After.{common_after, own_after}, Allowed.Allowed, Choice.{Choice, Choice.{Plain, Passes, Pays, Posts}}, Closing.{ends_by_clear, with_cleared}, Mail.{after_sending, own_after_letter}, Tasks.{after_over, own_after_over, requests_after_drops}, World.{Common, Own as Books, request_of, seat_of, task_of}}
+use Rattle.exec_books.{specs.Listed.IsListed, proofs.{Own.IsOwn, MineLists.{AllMine, SameLists, mark_mine, marked, same_lists, still}, MineDrops.over_mine, MineEvents.{admits, cancels_one, enrols, enters, expires, grants, lets_go, reaps, releases, stages}, Spares.{word_requests, post_requests}}}
 use Rattle.exec_rest.proofs.Events.{landed_by, seats_after}
-use Rattle.exec_books.proofs.{Own.{IsOwn}, MineLists.{AllMine, SameLists, mark_mine, marked, same_lists, still}, MineDrops.{over_mine}, MineEvents.{admits, cancels_one, enrols, enters, expires, grants, lets_go, reaps, releases, stages}}
-use Rattle.exec_books.proofs.Spares.{word_requests, post_requests}
 
 -- WHAT STAYS
 

@@ -1,14 +1,8 @@
 -- The requests of a worker stand in its lists after it let go of some, or of all that a task held that is over. For those
 -- of others it owes a letter.
-use Rattle.std.proofs.Common.{◌≡◌, ◌⊎◌, ℕ, ◌==◌, Bool, true, false, List, [], ◌∷◌, set, get_or, if◌then◌else◌, ◌∙◌, refl, sym, ap, subst, arith, inl, inr}
-use Rattle.std.proofs.lemmas.Bool.{true≢false, false≢true, eqb-true, eqb-false, ltb-true, ltb-false}
-use Rattle.std.proofs.lemmas.Grind.{get_or-set_at}
-use Rattle.std.proofs.lemmas.List.{get_or-set_other, set_past}
-use Rattle.exec_machine.specs.{declared.state.{Request.Request, MailMessage.TheVariants.{CancelRequest}, Waiting.Waiting}, Requests.{dropped, ends_by_drop, is_cancelled_by_drop, own_after_drop, joined_if, own_after_end}, World.{Own as Books, Common, no_request, request_of, task_of}, Tasks.{after_over, own_after_drops, own_after_over, own_after_waking_up, owes, requests_after_drops}}
-use Rattle.exec_books.specs.Listed.{IsListed}
-use Rattle.exec_books.proofs.Listed.{KeepsIn, in_last, kept_joined, kept_left, over_listed}
-use Rattle.exec_books.proofs.MinePhases.{drop_listed}
-use Rattle.exec_books.proofs.MineLists.{AllMine, SameLists, one_mine, same_lists, still}
+use Rattle.std.proofs.{Common.{◌≡◌, ◌⊎◌, ℕ, ◌==◌, Bool, true, false, List, [], ◌∷◌, set, get_or, if◌then◌else◌, ◌∙◌, refl, sym, ap, subst, arith, inl, inr}, lemmas.{Bool.{true≢false, false≢true, eqb-true, eqb-false, ltb-true, ltb-false}, Grind.get_or-set_at, List.{get_or-set_other, set_past}}}
+use Rattle.exec_machine.specs.{declared.state.{Request.Request, MailMessage.TheVariants.CancelRequest, Waiting.Waiting}, Requests.{dropped, ends_by_drop, is_cancelled_by_drop, own_after_drop, joined_if, own_after_end}, World.{Own as Books, Common, no_request, request_of, task_of}, Tasks.{after_over, own_after_drops, own_after_over, own_after_waking_up, owes, requests_after_drops}}
+use Rattle.exec_books.{specs.Listed.IsListed, proofs.{Listed.{KeepsIn, in_last, kept_joined, kept_left, over_listed}, MinePhases.drop_listed, MineLists.{AllMine, SameLists, one_mine, same_lists, still}}}
 
 -- ONE
 

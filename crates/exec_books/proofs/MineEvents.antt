@@ -1,16 +1,10 @@
 -- The requests of a worker stand in its lists after each event that changes one of them, or makes one.
-use Rattle.std.proofs.Common.{◌≡◌, ℕ, ◌+◌, ◌==◌, ◌&&◌, ◌||◌, Bool, true, false, List, [], ◌∷◌, ◌++◌, length, map, set, get_or, drop, Option, Some, None, if◌then◌else◌, ◌∙◌, refl, sym, ap, subst, arith}
-use Rattle.std.proofs.lemmas.Bool.{true≢false, false≢true, eqb-true}
-use Rattle.std.proofs.Math.ListN.{get_or-map}
+use Rattle.std.proofs.{Common.{◌≡◌, ℕ, ◌+◌, ◌==◌, ◌&&◌, ◌||◌, Bool, true, false, List, [], ◌∷◌, ◌++◌, length, map, set, get_or, drop, Option, Some, None, if◌then◌else◌, ◌∙◌, refl, sym, ap, subst, arith}, lemmas.Bool.{true≢false, false≢true, eqb-true}, Math.ListN.get_or-map}
 use Rattle.exec_outcomes.specs.{declared.outcome.{Outcome.Outcome, OpResult.OpResult, Kind.Kind}, Accounts.is_durable}
-use Rattle.exec_machine.specs.{declared.{config.{Configuration.Configuration, ScriptWord.ScriptWord}, event.Event.Event, state.{Request.Request, Operation.Operation}}, After.{own_after, common_after}, Allowed.Allowed, Choice.Choice, Deadlines.{expired}, Requests.{asked_now, dropped, ends_by_drop, first_phase, flown, granted, is_cancelled_by_drop, new_request, operation_asked, operation_or_none, own_after_drop, own_after_end, reaped, resolved_if, with_seen}, Same.{is_none}, Tests.{is_in_flight, is_landed, is_resolved}, Words.{next_word, polled_task}, World.{Own as Books, Common, no_request, request_of, seat_of}}
-use Rattle.exec_machine.specs.declared.event.Event.TheVariants as event
-use Rattle.exec_machine.specs.declared.state.Next.TheVariants as next
-use Rattle.exec_machine.specs.declared.state.RequestPhase.TheVariants as phase
-use Rattle.exec_books.specs.Listed.{IsListed, is_in}
-use Rattle.exec_books.proofs.Listed.{KeepsIn, in_last, kept_drop, kept_joined, kept_left, over_listed}
+use Rattle.exec_machine.specs.{declared.{config.{Configuration.Configuration, ScriptWord.ScriptWord}, event.Event.{Event, Event as event}, state.{Request.Request, Operation.Operation, RequestPhase.RequestPhase as phase}}, After.{own_after, common_after}, Allowed.Allowed, Choice.Choice, Deadlines.expired, Requests.{asked_now, dropped, ends_by_drop, first_phase, flown, granted, is_cancelled_by_drop, new_request, operation_asked, operation_or_none, own_after_drop, own_after_end, reaped, resolved_if, with_seen}, Same.is_none, Tests.{is_in_flight, is_landed, is_resolved}, Words.{next_word, polled_task}, World.{Own as Books, Common, no_request, request_of, seat_of}}
+use Rattle.exec_books.{specs.Listed.{IsListed, is_in}, proofs.{Listed.{KeepsIn, in_last, kept_drop, kept_joined, kept_left, over_listed}, MineLists.{AllMine, SameLists, books, keeps_same, new_mine, one_mine, same_lists}, MinePhases.{cancelled_listed, drop_listed, enrolled_listed, flown_listed, gated_open, landed_open, no_more, not_cancelled, put_unenrolled, queued_open, ready_listed, told_staged}, MineDrops.keeps_drop}}
 use Rattle.exec_rest.proofs.Events.{landed_by}
-use Rattle.exec_books.proofs.{MineLists.{AllMine, SameLists, books, keeps_same, new_mine, one_mine, same_lists}, MinePhases.{cancelled_listed, drop_listed, enrolled_listed, flown_listed, gated_open, landed_open, no_more, not_cancelled, put_unenrolled, queued_open, ready_listed, told_staged}, MineDrops.{keeps_drop}}
+use Rattle.exec_machine.specs.declared.state.Next.TheVariants as next
 
 -- an operation that waits at a gate has no deadline
 durable_undated : (c : Configuration) (sampled : ℕ) (w : ScriptWord) → is_durable (operation_or_none (operation_asked c sampled w)).kind ≡ true → is_none (operation_or_none (operation_asked c sampled w)).deadline ≡ true

@@ -1,14 +1,7 @@
 -- The requests of one worker stand in its lists: what one changed request, one new one, or other books leave of that.
-use Rattle.std.proofs.Common.{◌≡◌, ℕ, ◌≤◌, ◌==◌, Bool, true, false, List, [], ◌∷◌, ◌++◌, length, set, get_or, refl, sym, subst, arith}
-use Rattle.std.proofs.lemmas.Bool.{eqb-true, eqb-false, ltb-true, ltb-false}
-use Rattle.std.proofs.lemmas.Grind.{get_or-set_at}
-use Rattle.std.proofs.lemmas.List.{get_or-set_other, get_or_past, length-set, length-append}
-use Rattle.std.proofs.Math.ListN.{get_or-append}
-use Rattle.std.proofs.Math.Seq.{get_or-append_seam}
-use Rattle.std.specs.Prelude.{nat_lt}
+use Rattle.std.{proofs.{Common.{◌≡◌, ℕ, ◌≤◌, ◌==◌, Bool, true, false, List, [], ◌∷◌, ◌++◌, length, set, get_or, refl, sym, subst, arith}, lemmas.{Bool.{eqb-true, eqb-false, ltb-true, ltb-false}, Grind.get_or-set_at, List.{get_or-set_other, get_or_past, length-set, length-append}}, Math.{ListN.get_or-append, Seq.get_or-append_seam}}, specs.Prelude.nat_lt}
 use Rattle.exec_machine.specs.{declared.state.Request.Request, World.{Own as Books, no_request}}
-use Rattle.exec_books.specs.Listed.{IsListed}
-use Rattle.exec_books.proofs.Listed.{KeepsIn, listed_by, no_listed}
+use Rattle.exec_books.{specs.Listed.IsListed, proofs.Listed.{KeepsIn, listed_by, no_listed}}
 
 -- THE SAME LISTS
 

@@ -1,12 +1,8 @@
 -- One request, as its phase changes: where it stands in the lists then.
-use Rattle.std.proofs.Common.{◌≡◌, ℕ, ◌&&◌, ◌||◌, Bool, true, false, not, List, arith}
-use Rattle.std.proofs.lemmas.Bool.{false≢true}
-use Rattle.std.specs.Prelude.{Some}
-use Rattle.exec_outcomes.specs.declared.outcome.{OpResult.OpResult}
-use Rattle.exec_machine.specs.{declared.state.{Request.Request, RequestPhase.RequestPhase}, Requests.{dropped, ends_by_drop, flown, is_cancelled_by_drop, joined_if, own_after_end}, Tests.{is_gated, is_landed_with, is_queued, is_resolved}, World.{Own as Books}}
-use Rattle.exec_machine.specs.declared.state.RequestPhase.TheVariants as phase
-use Rattle.exec_books.specs.Listed.{IsListed, is_in}
-use Rattle.exec_books.proofs.Listed.{in_last, over_listed}
+use Rattle.std.{proofs.{Common.{◌≡◌, ℕ, ◌&&◌, ◌||◌, Bool, true, false, not, List, arith}, lemmas.Bool.false≢true}, specs.Prelude.Some}
+use Rattle.exec_outcomes.specs.declared.outcome.OpResult.{OpResult}
+use Rattle.exec_machine.specs.{declared.state.{Request.Request, RequestPhase.{RequestPhase, RequestPhase as phase}}, Requests.{dropped, ends_by_drop, flown, is_cancelled_by_drop, joined_if, own_after_end}, Tests.{is_gated, is_landed_with, is_queued, is_resolved}, World.Own as Books}
+use Rattle.exec_books.{specs.Listed.{IsListed, is_in}, proofs.Listed.{in_last, over_listed}}
 
 -- PHASES
 

@@ -1,20 +1,11 @@
 -- A step that is no worker's keeps the books.
-use Rattle.std.proofs.Common.{◌≡◌, ℕ, ◌+◌, ◌<◌, ◌==◌, Bool, true, false, ◌&&◌, List, [], ◌∷◌, ◌++◌, length, refl, sym, ap, ◌∙◌, subst, arith, get_or, set, Option, if◌then◌else◌}
-use Rattle.std.proofs.lemmas.Bool.{true≢false, false≢true, and_parts, or_left, eqb-true, eqb-false, ltb-true, ltb-false}
-use Rattle.std.proofs.lemmas.List.{get_or-set_same, get_or-set_other, get_or_past, length-set, length-map, Folds.list_any-append}
-use Rattle.std.specs.Prelude.{◌⊎◌, nat_lt}
-use Rattle.std.specs.List.{list_any}
+use Rattle.std.{proofs.{Common.{◌≡◌, ℕ, ◌+◌, ◌<◌, ◌==◌, Bool, true, false, ◌&&◌, List, [], ◌∷◌, ◌++◌, length, refl, sym, ap, ◌∙◌, subst, arith, get_or, set, Option, if◌then◌else◌}, lemmas.{Bool.{true≢false, false≢true, and_parts, or_left, eqb-true, eqb-false, ltb-true, ltb-false}, List.{get_or-set_same, get_or-set_other, get_or_past, length-set, length-map, Folds.list_any-append}}}, specs.{Prelude.{◌⊎◌, nat_lt}, List.list_any}}
 use Rattle.exec_outcomes.specs.declared.outcome.OpResult.{OpResult}
-use Rattle.exec_machine.specs.{declared.{config.Configuration.Configuration, event.Event.Event, state.{MailMessage.MailMessage, Request.Request, Rest.Rest}, step.Action.{Action, TheVariants.Work}}, Callers.{after_clock, after_going_on, after_landing, after_peer, after_spawn_by_call, after_wake_by_call, common_by, half_done, is_enabled}, Choice.Choice, Deadlines.{next_due, rest_until, roused_at, is_after}, Mail.{after_post, after_rouse, is_left_out, is_root_message, posted}, Run.{after_event}, Same.same_message, Tests.{is_awake, is_flying, is_landed, set_seat}, World.{Common, Seat, World, no_request, no_seat, request_of, seat_of}}
-use Rattle.exec_machine.specs.declared.event.Event.TheVariants as event
+use Rattle.exec_machine.specs.{declared.{config.Configuration.Configuration, event.Event.{Event, Event as event}, state.{MailMessage.MailMessage, Request.Request, Rest.Rest}, step.Action.{Action, TheVariants.Work, Action as action}}, Callers.{after_clock, after_going_on, after_landing, after_peer, after_spawn_by_call, after_wake_by_call, common_by, half_done, is_enabled}, Choice.Choice, Deadlines.{next_due, rest_until, roused_at, is_after}, Mail.{after_post, after_rouse, is_left_out, is_root_message, posted}, Run.after_event, Same.same_message, Tests.{is_awake, is_flying, is_landed, set_seat}, World.{Common, Seat, World, no_request, no_seat, request_of, seat_of}}
+use Rattle.exec_books.{specs.{Listed.is_in, Booked.IsBooked}, proofs.{Listed.in_last, DuesLists.{Dues, HasDue, beside, by_seats, dues, dues_kept, dues_then, posts, rouses, seat_set, timer_set}, OthersLeft.{Leaves, SameRequest, SameSeat, booked_still, leaves_by_seats, flying_set, same_request, same_seat, unreleased_set}}}
+use Rattle.exec_rest.proofs.Others.{map_like, set_like}
 use Rattle.exec_machine.specs.declared.state.RequestPhase.TheVariants as phase
 use Rattle.exec_machine.specs.declared.state.Rest.TheVariants as rest
-use Rattle.exec_machine.specs.declared.step.Action.TheVariants as action
-use Rattle.exec_books.specs.Listed.{is_in}
-use Rattle.exec_books.proofs.Listed.{in_last}
-use Rattle.exec_books.specs.Booked.{IsBooked}
-use Rattle.exec_rest.proofs.Others.{map_like, set_like}
-use Rattle.exec_books.proofs.{DuesLists.{Dues, HasDue, beside, by_seats, dues, dues_kept, dues_then, posts, rouses, seat_set, timer_set}, OthersLeft.{Leaves, SameRequest, SameSeat, booked_still, leaves_by_seats, flying_set, same_request, same_seat, unreleased_set}}
 
 -- WHAT IS DUE
 

@@ -1,12 +1,7 @@
 -- What a step that is no worker's leaves, and that this is enough for the books.
-use Rattle.std.proofs.Common.{◌≡◌, ℕ, zero, suc, ◌+◌, ◌<◌, ◌==◌, Bool, true, not, ◌&&◌, List, [], ◌∷◌, length, refl, sym, ap, ◌∙◌, subst, get_or, set, fold, cond, arith}
-use Rattle.std.specs.Prelude.{◌⊎◌}
-use Rattle.std.specs.List.{list_any}
-use Rattle.exec_machine.specs.{declared.state.{MailMessage.MailMessage, Operation.Operation, Request.Request}, Same.{same_message}, Tests.{has_ended, is_asleep, is_gated, is_in_flight, is_landed, is_of_file, is_queued, is_resolved}, World.{Common, Seat, World, no_open, no_request, no_sleeper, request_of, seat_of}}
-use Rattle.exec_machine.specs.declared.state.MailMessage.TheVariants as message
-use Rattle.exec_books.specs.Listed.{is_in}
-use Rattle.exec_books.specs.{Booked.{AreLinedUp, IsBooked, IsLed, IsLinedUp, IsUnderWay, flying_of, unreleased_of}, Listed.AreListed}
-use Rattle.exec_books.proofs.DuesLists.{HasDue}
+use Rattle.std.{proofs.Common.{◌≡◌, ℕ, zero, suc, ◌+◌, ◌<◌, ◌==◌, Bool, true, not, ◌&&◌, List, [], ◌∷◌, length, refl, sym, ap, ◌∙◌, subst, get_or, set, fold, cond, arith}, specs.{Prelude.◌⊎◌, List.list_any}}
+use Rattle.exec_machine.specs.{declared.state.{MailMessage.{MailMessage, MailMessage as message}, Operation.Operation, Request.Request}, Same.same_message, Tests.{has_ended, is_asleep, is_gated, is_in_flight, is_landed, is_of_file, is_queued, is_resolved}, World.{Common, Seat, World, no_open, no_request, no_sleeper, request_of, seat_of}}
+use Rattle.exec_books.{specs.{Listed.{is_in, AreListed}, Booked.{AreLinedUp, IsBooked, IsLed, IsLinedUp, IsUnderWay, flying_of, unreleased_of}}, proofs.DuesLists.HasDue}
 
 -- of a request: all but whether it flies or has landed
 pub record SameRequest (x y : Request) : Type 0 where

@@ -1,11 +1,6 @@
 -- Whose request or sleeper an event of a worker changes.
-use Rattle.std.proofs.Common.{◌≡◌, ℕ, Bool, true, false, Option, Some, refl, arith}
-use Rattle.std.proofs.lemmas.Bool.{false≢true}
-use Rattle.std.specs.Prelude.{slice_get}
-use Rattle.exec_machine.specs.{declared.{config.Configuration.Configuration, event.Event.Event, state.{MailMessage.MailMessage}}}
-use Rattle.exec_machine.specs.{Allowed.Allowed, Choice.{Choice}, Mail.{is_first_message}, Same.same_message, World.{Common, Own as Books, Seat, request_of, seat_of, sleeper_of}}
-use Rattle.exec_machine.specs.declared.event.Event.TheVariants as event
-use Rattle.exec_machine.specs.declared.state.MailMessage.TheVariants as message
+use Rattle.std.{proofs.{Common.{◌≡◌, ℕ, Bool, true, false, Option, Some, refl, arith}, lemmas.Bool.false≢true}, specs.Prelude.slice_get}
+use Rattle.exec_machine.specs.{declared.{config.Configuration.Configuration, event.Event.{Event, Event as event}, state.MailMessage.{MailMessage, MailMessage as message}}, Allowed.Allowed, Choice.Choice, Mail.is_first_message, Same.same_message, World.{Common, Own as Books, Seat, request_of, seat_of, sleeper_of}}
 use Rattle.exec_books.specs.Booked.{FirstIsOwn, IsOwnMessage}
 
 -- WHOSE THE CHANGED REQUEST OR SLEEPER IS

@@ -1,15 +1,9 @@
 -- A line of a worker leaves what is common, but for its own and what the line tells.
-use Rattle.std.proofs.Common.{◌≡◌, ◌≢◌, ℕ, ◌<◌, ◌==◌, true, false, List, [], ◌∷◌, length, map, Option, Some, None, refl, arith, get_or, set}
-use Rattle.std.proofs.lemmas.Bool.{eqb-true, true≢false}
-use Rattle.std.proofs.lemmas.List.{get_or_append_left, get_or_push, get_or-set_other, get_or-set_same, length-append, length-map, length-set}
-use Rattle.std.specs.Prelude.{slice_get}
+use Rattle.std.{proofs.{Common.{◌≡◌, ◌≢◌, ℕ, ◌<◌, ◌==◌, true, false, List, [], ◌∷◌, length, map, Option, Some, None, refl, arith, get_or, set}, lemmas.{Bool.{eqb-true, true≢false}, List.{get_or_append_left, get_or_push, get_or-set_other, get_or-set_same, length-append, length-map, length-set}}}, specs.Prelude.slice_get}
 use Rattle.exec_outcomes.specs.declared.outcome.{OpResult.OpResult, Outcome.Outcome}
-use Rattle.exec_machine.specs.declared.{config.Configuration.Configuration, event.Event.Event, state.{MailMessage.MailMessage, Operation.Operation, Request.Request, Sleeper.Sleeper}}
-use Rattle.exec_machine.specs.{After.{after, common_after}, Allowed.Allowed, Choice.Choice, Closing.gone_with, Requests.{common_after_refusal, flown, opens_after_end, reaped}, Same.same_message, Tasks.requests_after_drops, World.{Common, Own as Books, World, no_open, no_request, no_sleeper, open_of, own_of, request_of, seat_of, sleeper_of, task_of}}
-use Rattle.exec_machine.specs.declared.event.Event.TheVariants as event
+use Rattle.exec_machine.specs.{declared.{config.Configuration.Configuration, event.Event.{Event, Event as event}, state.{MailMessage.MailMessage, Operation.Operation, Request.Request, Sleeper.Sleeper}}, After.{after, common_after}, Allowed.Allowed, Choice.Choice, Closing.gone_with, Requests.{common_after_refusal, flown, opens_after_end, reaped}, Same.same_message, Tasks.requests_after_drops, World.{Common, Own as Books, World, no_open, no_request, no_sleeper, open_of, own_of, request_of, seat_of, sleeper_of, task_of}}
 use Rattle.exec_rest.proofs.Others.{map_like, set_like}
-use Rattle.exec_books.specs.{Booked.{FirstIsOwn, IsOwnMessage}, Reach.{OnlyReaches, names_open, names_task, request_elsewhere, sleeper_elsewhere}}
-use Rattle.exec_books.proofs.{Own.{IsOwn, first_message, own_by_allowed}, Spares.new_one}
+use Rattle.exec_books.{specs.{Booked.{FirstIsOwn, IsOwnMessage}, Reach.{OnlyReaches, names_open, names_task, request_elsewhere, sleeper_elsewhere}}, proofs.{Own.{IsOwn, first_message, own_by_allowed}, Spares.new_one}}
 
 drops_long : (i : ℕ) (held : List ℕ) (rs : List Request) → length (requests_after_drops i held rs) ≡ length rs
 drops_long i [] rs = refl

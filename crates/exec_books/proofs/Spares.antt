@@ -1,12 +1,7 @@
 -- An event of a worker leaves the requests and sleepers of all others, but for who waits for them.
-use Rattle.std.proofs.Common.{◌≡◌, ℕ, zero, suc, ◌<◌, ◌≤◌, ◌+◌, ◌==◌, ◌&&◌, Bool, true, false, List, [], ◌∷◌, ◌++◌, length, map, Option, Some, None, refl, sym, ◌∙◌, subst, arith, inl, inr, get_or, set, if◌then◌else◌}
-use Rattle.std.proofs.lemmas.Bool.{cases_Bool, eqb-true}
-use Rattle.std.proofs.lemmas.List.{get_or_append_left, get_or_push, length-append, length-map, length-set}
+use Rattle.std.proofs.{Common.{◌≡◌, ℕ, zero, suc, ◌<◌, ◌≤◌, ◌+◌, ◌==◌, ◌&&◌, Bool, true, false, List, [], ◌∷◌, ◌++◌, length, map, Option, Some, None, refl, sym, ◌∙◌, subst, arith, inl, inr, get_or, set, if◌then◌else◌}, lemmas.{Bool.{cases_Bool, eqb-true}, List.{get_or_append_left, get_or_push, length-append, length-map, length-set}}}
 use Rattle.exec_outcomes.specs.declared.outcome.{OpResult.OpResult, Outcome.Outcome}
-use Rattle.exec_machine.specs.declared.{config.Configuration.Configuration, event.Event.Event, state.{Forwarding.{Forwarding, TheVariants.{Applied, Sent}}, MailMessage.MailMessage, Next.Next, Request.Request}}
-use Rattle.exec_machine.specs.{After.{common_after, polled}, Choice.{Choice, Payer, Choice.{Plain, Pays, Posts}, Payer.{ByRequest, BySleeper, ByAct, ByCall, ByStop}}, Closing.{after_clear, after_next, ends_by_clear, with_cleared}, Deadlines.{enrolled, expired}, Mail.{after_post, after_sending, is_left_out, is_root_message}, Requests.{dropped, flown, granted, new_request, reaped, resolved_if}, Tasks.{after_over, after_payment, after_pend, after_word, requests_after_drops}, World.{Common, Own as Books, no_request, request_of, task_of}}
-use Rattle.exec_machine.specs.declared.event.Event.TheVariants as event
-use Rattle.exec_machine.specs.declared.state.MailMessage.TheVariants as message
+use Rattle.exec_machine.specs.{declared.{config.Configuration.Configuration, event.Event.{Event, Event as event}, state.{Forwarding.{Forwarding, TheVariants.{Applied, Sent}}, MailMessage.{MailMessage, MailMessage as message}, Next.Next, Request.Request}}, After.{common_after, polled}, Choice.{Choice, Payer, Choice.{Plain, Pays, Posts}, Payer.{ByRequest, BySleeper, ByAct, ByCall, ByStop}}, Closing.{after_clear, after_next, ends_by_clear, with_cleared}, Deadlines.{enrolled, expired}, Mail.{after_post, after_sending, is_left_out, is_root_message}, Requests.{dropped, flown, granted, new_request, reaped, resolved_if}, Tasks.{after_over, after_payment, after_pend, after_word, requests_after_drops}, World.{Common, Own as Books, no_request, request_of, task_of}}
 use Rattle.exec_books.proofs.Own.{IsOwn}
 
 -- of a request this stays

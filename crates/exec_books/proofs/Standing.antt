@@ -1,13 +1,8 @@
 -- Each request stands in its lists after an event of a worker, its own and those of others.
-use Rattle.std.proofs.Common.{◌≡◌, ◌≢◌, ℕ, ◌<◌, ◌≤◌, List, length, arith}
-use Rattle.std.proofs.lemmas.Bool.{cases_eq, cases_lt}
-use Rattle.std.proofs.lemmas.List.{get_or-set_other, get_or-set_same, get_or_append_left, get_or_past, length-set}
-use Rattle.std.specs.Prelude.{◌⊎◌}
+use Rattle.std.{proofs.{Common.{◌≡◌, ◌≢◌, ℕ, ◌<◌, ◌≤◌, List, length, arith}, lemmas.{Bool.{cases_eq, cases_lt}, List.{get_or-set_other, get_or-set_same, get_or_append_left, get_or_past, length-set}}}, specs.Prelude.◌⊎◌}
 use Rattle.exec_machine.specs.{declared.{config.Configuration.Configuration, event.Event.Event, state.Request.Request}, After.{after, common_after, own_after}, Allowed.Allowed, Choice.Choice, World.{Common, Own as Books, World, own_of, request_of, seat_of}}
-use Rattle.exec_books.{specs.Listed.IsListed, proofs.Listed.no_listed}
+use Rattle.exec_books.{specs.{Listed.{IsListed, AreListed}, Booked.IsBooked}, proofs.{Listed.no_listed, Mine.mine_then, Own.IsOwn, Spares.{Spared, new_one, same_worker, spares}}}
 use Rattle.exec_rest.proofs.Events.{seats_after}
-use Rattle.exec_books.specs.{Booked.IsBooked, Listed.AreListed}
-use Rattle.exec_books.proofs.{Mine.{mine_then}, Own.{IsOwn}, Spares.{Spared, new_one, same_worker, spares}}
 
 -- what stays of a request keeps it where it stands
 listed_still : {me : Books} {landed : List ℕ} {k : ℕ} {x y : Request} → Spared x y → IsListed me landed k x → IsListed me landed k y

@@ -1,9 +1,6 @@
 -- WHAT A WORKER HAS IS IN ITS BOOKS, in each state of a run: its requests stand in its lists, and what it counts is there.
-use Rattle.std.specs.Prelude.{◌≡◌, ℕ, ◌<◌, Bool, true, false, not, ◌==◌, ◌&&◌, ◌||◌, ◌⊎◌, List, [], length, count_by, slice_get, Some, None}
-use Rattle.std.specs.List.{list_any}
-use Rattle.exec_machine.specs.{declared.state.{Forwarding.TheVariants.Sent, MailMessage.MailMessage, Request.Request}, Deadlines.{is_after, next_due, rest_until}, Same.{is_number, same_message}, Tests.{has_ended, is_asleep, is_awake, is_gated, is_in_flight, is_of_file, is_resolved}, World.{Common, Open, Seat, World, open_of, own_of, request_of, seat_of, sleeper_of}}
-use Rattle.exec_machine.specs.declared.state.MailMessage.TheVariants as message
-use Rattle.exec_machine.specs.declared.state.Next.TheVariants as next
+use Rattle.std.specs.{Prelude.{◌≡◌, ℕ, ◌<◌, Bool, true, false, not, ◌==◌, ◌&&◌, ◌||◌, ◌⊎◌, List, [], length, count_by, slice_get, Some, None}, List.list_any}
+use Rattle.exec_machine.specs.{declared.state.{Forwarding.TheVariants.Sent, MailMessage.{MailMessage, MailMessage as message}, Request.Request, Next.Next as next}, Deadlines.{is_after, next_due, rest_until}, Same.{is_number, same_message}, Tests.{has_ended, is_asleep, is_awake, is_gated, is_in_flight, is_of_file, is_resolved}, World.{Common, Open, Seat, World, open_of, own_of, request_of, seat_of, sleeper_of}}
 use Rattle.exec_outcomes.specs.Accounts.{is_durable}
 use Rattle.exec_books.specs.Listed.{AreListed, is_in}
 

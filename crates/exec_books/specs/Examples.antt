@@ -2,9 +2,7 @@
 -- workers that have just begun.
 use Rattle.std.specs.Prelude.{List, [], ◌∷◌, None}
 use Rattle.exec_outcomes.specs.declared.outcome.Kind.TheVariants.{Dsync}
-use Rattle.exec_machine.specs.{declared.state.{Request.Request, RequestPhase.TheVariants.Gated, Rest.TheVariants.Awake, Sleeper.Sleeper}, Examples.usual, Progress.Plan, Run.first_common, Tests.{set_request, set_seat}, World.{Common, Open, Own, Seat, World, no_operation, own_of, request_of, seat_of}}
-use Rattle.exec_machine.specs.declared.config.ScriptWord.TheVariants as word
-use Rattle.exec_machine.specs.declared.step.Step.TheVariants as step
+use Rattle.exec_machine.specs.{declared.{state.{Request.Request, RequestPhase.TheVariants.Gated, Rest.TheVariants.Awake, Sleeper.Sleeper}, config.ScriptWord.ScriptWord as word, step.Step.Step as step}, Examples.usual, Progress.Plan, Run.first_common, Tests.{set_request, set_seat}, World.{Common, Open, Own, Seat, World, no_operation, own_of, request_of, seat_of}}
 use Rattle.exec_moves.specs.{Departures.played, Plays.{Playing, first_playing, log_by_moves}}
 
 -- a root that sends ten bytes to socket 0, which may take ten milliseconds, and waits for that

@@ -1,6 +1,5 @@
 -- In which lists of its worker a request stands.
-use Rattle.std.specs.Prelude.{◌≡◌, ℕ, Bool, true, false, not, ◌==◌, ◌&&◌, ◌||◌, List}
-use Rattle.std.specs.List.{list_any}
+use Rattle.std.specs.{Prelude.{◌≡◌, ℕ, Bool, true, false, not, ◌==◌, ◌&&◌, ◌||◌, List}, List.list_any}
 use Rattle.exec_machine.specs.{declared.state.Request.Request, Same.is_none, Tests.{is_in_flight, is_landed, is_queued, is_resolved}, World.{Own, World, own_of, request_of, seat_of}}
 
 abbrev pub is_in : ℕ → List ℕ → Bool

@@ -1,7 +1,6 @@
 -- WHAT A LINE OF A WORKER LEAVES of what is common: all that isn't its own, but for what the line tells.
 use Rattle.std.specs.Prelude.{◌≡◌, ◌≢◌, ℕ, ◌<◌, ◌≤◌, ◌+◌, Bool, false, not, ◌==◌, ◌&&◌, if◌then◌else◌, length, Some}
-use Rattle.exec_machine.specs.{declared.{event.Event.Event, state.{Forwarding.TheVariants.Sent, MailMessage.TheVariants.{ForwardRequest, ForwardTimer, Root}, Next.{Next, TheVariants.Joins}, Request.Request, Rest.TheVariants.Awake, Sleeper.Sleeper}}, Choice.{Choice, Choice.Pays, Payer.{ByRequest, BySleeper}}, Mail.{is_left_out, is_root_message, posted}, World.{Common, Own, Seat, open_of, request_of, seat_of, sleeper_of, task_of}}
-use Rattle.exec_machine.specs.declared.event.Event.TheVariants as event
+use Rattle.exec_machine.specs.{declared.{event.Event.{Event, Event as event}, state.{Forwarding.TheVariants.Sent, MailMessage.TheVariants.{ForwardRequest, ForwardTimer, Root}, Next.{Next, TheVariants.Joins}, Request.Request, Rest.TheVariants.Awake, Sleeper.Sleeper}}, Choice.{Choice, Choice.Pays, Payer.{ByRequest, BySleeper}}, Mail.{is_left_out, is_root_message, posted}, World.{Common, Own, Seat, open_of, request_of, seat_of, sleeper_of, task_of}}
 
 -- It is about a request of this open: one that joins its gate, is admitted, is granted the permit, or has a result that is
 -- judged. The request is one of t, the state after it.

@@ -2,16 +2,11 @@
 
 ghost use Rattle.std.specs.Prelude.{◌≡◌, true, false, [], ◌∷◌, ◌++◌, Some, None};
 ghost use Rattle.exec_outcomes.specs.declared.outcome.{Kind.TheVariants.{Read, Send}, OpResult.TheVariants.Count, Outcome.TheVariants.Success};
-ghost use Rattle.exec_machine.specs.{Choice.{Choice.{Pays, Plain, Posts}, Payer.{ByAct, BySleeper}}, Deadlines.{new_sleeper}, Mail.posted, Requests.new_request, Tasks.{begun, new_own, new_seat}, Tests.{set_open, set_seat, set_task}, World.{no_open, no_operation, no_own, task_of}};
-ghost use Rattle.exec_machine.specs.declared.event.Event.TheVariants as event;
-ghost use Rattle.exec_machine.specs.declared.state.MailMessage.TheVariants as message;
-ghost use Rattle.exec_machine.specs.declared.state.Forwarding.TheVariants.{Sent};
+ghost use Rattle.exec_machine.specs.{Choice.{Choice.{Pays, Plain, Posts}, Payer.{ByAct, BySleeper}}, Deadlines.new_sleeper, Mail.posted, Requests.new_request, Tasks.{begun, new_own, new_seat}, Tests.{set_open, set_seat, set_task}, World.{no_open, no_operation, no_own, task_of}, declared.{event.Event.Event as event, state.{MailMessage.MailMessage as message, Forwarding.TheVariants.Sent, WorkerPhase.TheVariants.Ended}}};
+ghost use Rattle.exec_books.specs.{Booked.{IsBooked, IsLinedUp}, Listed.IsListed, Reach.{OnlyReaches, names_open, names_task, new_by, request_elsewhere, seat_elsewhere, sleeper_elsewhere}, Examples.{sending, its_own, its_seat, its_request, its_write, at_gate, with_own, with_seat, beside, begun_with}};
 ghost use Rattle.exec_machine.specs.declared.state.Next.TheVariants as next;
 ghost use Rattle.exec_machine.specs.declared.state.RequestPhase.TheVariants as phase;
 ghost use Rattle.exec_machine.specs.declared.state.Rest.TheVariants as rest;
-ghost use Rattle.exec_machine.specs.declared.state.WorkerPhase.TheVariants.{Ended};
-ghost use Rattle.exec_books.specs.{Booked.{IsBooked, IsLinedUp}, Listed.{IsListed}, Reach.{OnlyReaches, names_open, names_task, new_by, request_elsewhere, seat_elsewhere, sleeper_elsewhere}};
-ghost use Rattle.exec_books.specs.Examples.{sending, its_own, its_seat, its_request, its_write, at_gate, with_own, with_seat, beside, begun_with};
 
 /// A root sends ten bytes, which may take ten milliseconds, and its worker makes its steps until it sleeps. The kernel
 /// has the request then, and its deadline is on the wheel: so it is in none of the lists. It is the one in flight, and

@@ -1,11 +1,6 @@
 -- Lists of chunks, up to a position.
-use Rattle.std.proofs.Common.{◌≡◌, ℕ, ◌+◌, ◌<◌, List, [], ◌∷◌, ◌++◌, length, take, get_or, refl, sym, ap, ◌∙◌, arith, length-append}
-use Rattle.std.proofs.lemmas.List.{append-nil}
-use Rattle.std.proofs.lemmas.List.Sums.{sum_by-cons}
+use Rattle.std.{proofs.{Common.{◌≡◌, ℕ, ◌+◌, ◌<◌, List, [], ◌∷◌, ◌++◌, length, take, get_or, refl, sym, ap, ◌∙◌, arith, length-append}, lemmas.{List.{append-nil, Sums.sum_by-cons, Folds.concat-append}, Grind.common_steps}}, specs.List.concat}
 use Rattle.exec_bufs.specs.Buffers.{total}
-use Rattle.std.specs.List.{concat}
-use Rattle.std.proofs.lemmas.List.Folds.{concat-append}
-use Rattle.std.proofs.lemmas.Grind.{common_steps}
 
 -- the bytes up to the next chunk
 pub concat-take_next : (chunks : List (List ℕ)) (i : ℕ) (d : List ℕ) → i < length chunks → concat (take (i + 1) chunks) ≡ concat (take i chunks) ++ get_or chunks i d

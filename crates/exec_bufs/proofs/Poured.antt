@@ -1,8 +1,5 @@
 -- What the loops over chunks do.
-use Rattle.std.proofs.Common.{◌≡◌, ℕ, suc, ◌+◌, ◌-◌, ◌≤◌, List, [], ◌∷◌, length, take, drop, min, sum_by, replicate, refl, sym, ap, ◌∙◌, arith, length-append, length-drop}
-use Rattle.std.proofs.lemmas.List.{take-append-drop, length-take, length-take-le, length-replicate}
-use Rattle.std.proofs.lemmas.List.Sums.{sum_by-cons}
-use Rattle.std.proofs.lemmas.List.Concat.{length-flat_map}
+use Rattle.std.proofs.{Common.{◌≡◌, ℕ, suc, ◌+◌, ◌-◌, ◌≤◌, List, [], ◌∷◌, length, take, drop, min, sum_by, replicate, refl, sym, ap, ◌∙◌, arith, length-append, length-drop}, lemmas.List.{take-append-drop, length-take, length-take-le, length-replicate, Sums.sum_by-cons, Concat.length-flat_map}}
 use Rattle.exec_bufs.specs.Buffers.{Buffer, resized, bytes_of, filled, room, cuts, spread}
 
 -- buffers that keep their lengths, with these bytes in them

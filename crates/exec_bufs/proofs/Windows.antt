@@ -1,6 +1,5 @@
 -- What edits of a list do to its tail from a position on.
-use Rattle.std.proofs.Common.{◌≡◌, ℕ, ◌+◌, ◌-◌, ◌≤◌, List, ◌++◌, length, take, drop, replicate, refl, ap, arith, length-append, length-drop, ◌∙◌, Result, Ok, Err, IsOk, is_ok, if◌then◌else◌}
-use Rattle.std.proofs.lemmas.List.{drop-take, drop-append-le, drop_all, length-take, length-take-le, append-nil, take_all}
+use Rattle.std.proofs.{Common.{◌≡◌, ℕ, ◌+◌, ◌-◌, ◌≤◌, List, ◌++◌, length, take, drop, replicate, refl, ap, arith, length-append, length-drop, ◌∙◌, Result, Ok, Err, IsOk, is_ok, if◌then◌else◌}, lemmas.List.{drop-take, drop-append-le, drop_all, length-take, length-take-le, append-nil, take_all}}
 use Rattle.exec_bufs.specs.Buffers.{resized}
 
 -- a list that is cut, or filled up with zeros, at a place of its tail

@@ -1,8 +1,6 @@
 -- What a write through the slice of a buffer leaves: for the crates that write into one.
-use Rattle.std.proofs.Common.{◌≡◌, ℕ, List, length, ap, arith}
-use Rattle.std.proofs.lemmas.List.{append-nil, drop_all, take_all}
-use Rattle.exec_bufs.specs.Buffers.{Buffer}
-use Rattle.exec_bufs.specs.Lending.{with_bytes}
+use Rattle.std.proofs.{Common.{◌≡◌, ℕ, List, length, ap, arith}, lemmas.List.{append-nil, drop_all, take_all}}
+use Rattle.exec_bufs.specs.{Buffers.Buffer, Lending.with_bytes}
 
 -- a buffer whose bytes were written over, as many as there were
 pub with_bytes_is : (b : Buffer) (bytes : List ℕ) → length bytes ≡ length b.bytes → with_bytes b bytes ≡ record b { bytes = bytes }

@@ -1,6 +1,5 @@
 -- Bytes with room, and lists of them.
-use Rattle.std.specs.Prelude.{◌≡◌, ℕ, ◌-◌, ◌^◌, ◌<◌, ◌≤◌, List, [], ◌∷◌, ◌++◌, length, take, replicate, All, sum_by, map, min}
-use Rattle.std.specs.List.{flat_map}
+use Rattle.std.specs.{Prelude.{◌≡◌, ℕ, ◌-◌, ◌^◌, ◌<◌, ◌≤◌, List, [], ◌∷◌, ◌++◌, length, take, replicate, All, sum_by, map, min}, List.flat_map}
 
 -- bytes, and how many there is room for in all
 pub record Buffer : Type 0 where

@@ -1,8 +1,6 @@
 -- What a buffer is once a borrow of its bytes is over.
-use Rattle.std.specs.Prelude.{ℕ, List, ◌++◌, length, take, drop}
-use Rattle.std.specs.Borrow.{Lends, MutBor, Fml, Array, u8}
-use Rattle.exec_bufs.specs.Buffers.{Buffer}
-use Rattle.exec_bufs.specs.contracts.buf.IoBufMut.{the_row}
+use Rattle.std.specs.{Prelude.{ℕ, List, ◌++◌, length, take, drop}, Borrow.{Lends, MutBor, Fml, Array, u8}}
+use Rattle.exec_bufs.specs.{Buffers.Buffer, contracts.buf.IoBufMut.the_row}
 
 -- a buffer with these bytes; a slice keeps its length, and so does the buffer
 abbrev pub with_bytes : Buffer → List ℕ → Buffer

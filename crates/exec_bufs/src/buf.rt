@@ -1,9 +1,7 @@
 //! A buffer of bytes, and one with room for more.
 
-ghost use Rattle.std.specs.Prelude.{◌≡◌, ℕ, ◌-◌, ◌≤◌, List, [], length, take, drop, vec_len, vec_capacity, IfOk};
-ghost use Rattle.std.specs.Borrow.{sem};
-ghost use Rattle.exec_bufs.specs.Buffers.{resized};
-ghost use Rattle.exec_bufs.specs.Lending.{LendsBytes};
+ghost use Rattle.std.specs.{Prelude.{◌≡◌, ℕ, ◌-◌, ◌≤◌, List, [], length, take, drop, vec_len, vec_capacity, IfOk}, Borrow.sem};
+ghost use Rattle.exec_bufs.specs.{Buffers.resized, Lending.LendsBytes};
 
 use std::alloc::{AllocError, Global};
 use std::marker::Model;

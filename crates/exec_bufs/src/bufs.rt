@@ -1,8 +1,6 @@
 //! A list of chunks of bytes.
 
-ghost use Rattle.std.specs.Prelude.{◌≡◌, ℕ, ◌+◌, ◌<◌, ◌≤◌, List, [], ◌++◌, length, IfOk, IfErr, OnOk, OnErr, IsOk, IsErr, IfSome, slice_get, ◌↔◌};
-ghost use Rattle.std.specs.List.{concat};
-ghost use Rattle.std.specs.Option.{option_copied};
+ghost use Rattle.std.specs.{Prelude.{◌≡◌, ℕ, ◌+◌, ◌<◌, ◌≤◌, List, [], ◌++◌, length, IfOk, IfErr, OnOk, OnErr, IsOk, IsErr, IfSome, slice_get, ◌↔◌}, List.concat, Option.option_copied};
 ghost use Rattle.exec_bufs.specs.Buffers.{total, with_chunk, most};
 
 use crate::buf::IoBuf;

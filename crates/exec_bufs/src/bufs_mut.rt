@@ -1,7 +1,6 @@
 //! A list of chunks with room for more bytes.
 
-ghost use Rattle.std.specs.Prelude.{◌≡◌, ◌+◌, ◌^◌, ◌-◌, ◌≤◌, ◌↔◌, [], ◌∷◌, ◌++◌, min, length, IsTrue, IfOk, IfErr, IsOk, OnOk, OnErr, slice_get};
-ghost use Rattle.std.specs.Option.{option_copied};
+ghost use Rattle.std.specs.{Prelude.{◌≡◌, ◌+◌, ◌^◌, ◌-◌, ◌≤◌, ◌↔◌, [], ◌∷◌, ◌++◌, min, length, IsTrue, IfOk, IfErr, IsOk, OnOk, OnErr, slice_get}, Option.option_copied};
 ghost use Rattle.exec_bufs.specs.Buffers.{bytes_of, filled, room, cuts, spread, joined, most};
 
 use crate::buf::IoBufMut;

@@ -1,8 +1,7 @@
 //! Worked examples of what the containers are seen as.
 
 ghost use Rattle.std.specs.Prelude.{◌≡◌, ◌≢◌, ◌+◌, ◌^◌, [], ◌∷◌};
-ghost use Rattle.exec_bufs.specs.Buffers.{resized, with_chunk, NoneEmpty, most, total, bytes_of, filled, room, cuts, spread, joined};
-ghost use Rattle.exec_bufs.specs.Lending.{with_bytes};
+ghost use Rattle.exec_bufs.specs.{Buffers.{resized, with_chunk, NoneEmpty, most, total, bytes_of, filled, room, cuts, spread, joined}, Lending.with_bytes};
 
 /// The bytes `abc` (97, 98, 99), made shorter and longer.
 pub fn lengths()

@@ -3,10 +3,9 @@
 use Rattle.std.proofs.{Common.{rules, ◌≡◌, ◌⊎◌, inl, inr, ⊎_elim, ℕ, ◌+◌, ◌<◌, Bool, true, false, List, Option, Some, None, is_some, refl, sym, ap, subst, ◌∙◌, arith, slice_get, slice_set, Ok, Err}, lemmas.Bool.false≢true}
 use Rattle.exec_base.specs.declared.one_shot.OneShotState.{OneShotState, TheVariants.{Open, Sent, Closed}}
 use Rattle.exec_outcomes.specs.declared.outcome.Outcome.{Outcome}
-use Rattle.exec_machine.specs.{declared.state.Forwarding.{Forwarding}, Tests.is_unsent}
-use Rattle.exec_parts.{specs.declared.parts.mail.Subject.Subject, proofs.Facts.{by_number, same_Some, set_elsewhere, set_there}}
+use Rattle.exec_machine.specs.{declared.state.Forwarding.Forwarding, Tests.is_unsent}
+use Rattle.exec_parts.{specs.declared.parts.mail.Subject.{Subject, Subject as subject}, proofs.Facts.{by_number, same_Some, set_elsewhere, set_there}}
 use Rattle.exec_invariants.{specs.Holding.{Awaits, Box, Hands, HasAnswer, Holder, IsClosing, IsDue, IsForwarded, IsHeldBy, IsHolding, IsOwed, Mail, MayHave, Nap, Owes, Thing, ThingOwes, holdings}, proofs.HoldRedo.holding_redone}
-use Rattle.exec_parts.specs.declared.parts.mail.Subject.TheVariants as subject
 
 shut_held : (shut before now : Bool) (n a b : ℕ) → shut ≡ true → IsHeldBy shut before n a → IsHeldBy shut now n b
 shut_held true before now n a b is fact = fact

@@ -1,15 +1,12 @@
 -- The mailbox of a closing worker is closed: what stood in it, and what was taken and not applied, is let go.
-use Rattle.std.proofs.{Common.{◌≡◌, inl, ℕ, zero, suc, ◌+◌, ◌^◌, ◌<◌, ◌==◌, ◌&&◌, Bool, true, false, cond, Contains, List, [], ◌∷◌, ◌++◌, count_by, length, map, sum_by, Option, None, Some, refl, sym, ap, subst, ◌∙◌, arith, slice_get, slice_set, nat_lt}, lemmas.{Bool.{false≢true, Decides.nat_tests}, List.{Sums.{sum_by-append, sum_by-cons}}, Nat.mod_below, Option.{slice_get_within}}}
+use Rattle.std.proofs.{Common.{◌≡◌, inl, ℕ, zero, suc, ◌+◌, ◌^◌, ◌<◌, ◌==◌, ◌&&◌, Bool, true, false, cond, Contains, List, [], ◌∷◌, ◌++◌, count_by, length, map, sum_by, Option, None, Some, refl, sym, ap, subst, ◌∙◌, arith, slice_get, slice_set, nat_lt}, lemmas.{Bool.{false≢true, Decides.nat_tests}, List.Sums.{sum_by-append, sum_by-cons}, Nat.mod_below, Option.slice_get_within}}
 use Rattle.exec_words.specs.{Inbox.{Inbox, batch_handed, batch_taken, is_wake_root, shut}, declared.inbox.Message.Message, Reserved.Reserved}
 use Rattle.exec_task.specs.declared.body.Said.{Said}
 use Rattle.exec_machine.specs.{declared.{event.Event.{Event, TheVariants.Turn}, state.Next.Next}, Choice.Choice.Plain, Tests.has_ended}
 use Rattle.exec_moves.specs.{declared.place.{InClosing.InClosing, Place.Place}, Close.{after_letting_go, batches_closed, close_mailbox, first_asleep, first_held}, Move.move_at, Seen.{next_at, serves_at}, Thing.{set_inbox, with_inbox}}
 use Rattle.exec_parts.{specs.{declared.parts.{held.Held.Held, mail.Subject.Subject, seat.Seat.Seat as Chair, shared.Shared.Shared, task_slot.TaskSlot.TaskSlot, worker.Worker.Worker}, Ending.ClosesOn, Phased.{IsGoing, IsPhased, Stage, TurnsChair, closes_at, closing_in, is_complete, stage_of}, Pooled.OfChair, MailPosts.IsMailbox, Spots.Spot, View.{Visible, common_of, desk_of, driver_of, inbox_at, message_of, own_of, owed_at, seat_seen, seats_seen, things_with, visible, with_view}}, proofs.Facts.{same_number, same_Some}}
-use Rattle.exec_invariants.proofs.Showing.{map_set}
-use Rattle.exec_invariants.{specs.{Drained.IsLetOn, Holding.{Hands, Holder, IsAbout, IsOf, Mail, MayHave, Thing, box_of, holder_of, holdings, mail_in, mail_of_letters, nap_of, same_mail, thing_of}, Places.{drops_at, is_pooled_at, no_drops}, Sound.{Aims, HasBatch, IsMineIn, IsMyMail, LetsGoAt, SoundAt, has_wakes_at}, Whole.{IsWhole, Profile, duties_of, hands_of, with_worker}, Works.Steps}, proofs.{Aside.{queue_of_chair, queues_set, seats_own}, Closes.closed_by, Dedicated.own_root, LetsNext.lets_next, Mailing.{inbox_shows, own_inbox_seen}, PoolKept.all_over, Seats.own_seat, Shutting.{Follows, Holds, mail_there}}}
+use Rattle.exec_invariants.{proofs.{Showing.map_set, Aside.{queue_of_chair, queues_set, seats_own}, Closes.closed_by, Dedicated.own_root, LetsNext.lets_next, Mailing.{inbox_shows, own_inbox_seen}, PoolKept.all_over, Seats.own_seat, Shutting.{Follows, Holds, mail_there}, Lined.{mapped, unmapped}, HandedOver.{by_list, taken_none, taken_some}}, specs.{Drained.IsLetOn, Holding.{Hands, Holder, IsAbout, IsOf, Mail, MayHave, Thing, box_of, holder_of, holdings, mail_in, mail_of_letters, nap_of, same_mail, thing_of}, Places.{drops_at, is_pooled_at, no_drops}, Sound.{Aims, HasBatch, IsMineIn, IsMyMail, LetsGoAt, SoundAt, has_wakes_at}, Whole.{IsWhole, Profile, duties_of, hands_of, with_worker}, Works.Steps}}
 use Rattle.exec_closing.proofs.{Parting.{on_seats, ready_own}, ShutHeld.shut_holding, Unmailed.pools_unmailed}
-use Rattle.exec_invariants.proofs.Lined.{mapped, unmapped}
-use Rattle.exec_invariants.proofs.HandedOver.{by_list, taken_none, taken_some}
 
 no_mail : (m : Mail) → Contains [] m → ⊥
 no_mail m (k, few, is) = omega (arith, few)

@@ -3,9 +3,8 @@
 use Rattle.std.proofs.{Common.{◌≡◌, ◌⊎◌, ℕ, zero, suc, ◌+◌, ◌<◌, ◌≤◌, ◌||◌, true, false, List, sum_by, Option, Some, None, refl, sym, ap, subst, ◌∙◌, arith, inl, inr, slice_get, slice_set}, lemmas.Bool.false≢true}
 use Rattle.exec_words.specs.declared.inbox.Message.{Message}
 use Rattle.exec_machine.specs.Tests.{is_unsent}
-use Rattle.exec_parts.proofs.Facts.{same_Some, set_there}
+use Rattle.exec_parts.{proofs.Facts.{same_Some, set_there}, specs.declared.parts.mail.Subject.Subject as subject}
 use Rattle.exec_invariants.{specs.Holding.{Awaits, Box, Hands, Holder, IsHolding, IsOwed, Mail, Nap, Owes, Thing, IsForwarded, mail_in, under_way, waiters}, proofs.HoldSleeps.nap_redone}
-use Rattle.exec_parts.specs.declared.parts.mail.Subject.TheVariants as subject
 
 -- WHAT TASKS HOLD AND ARE OWED
 

@@ -7,8 +7,7 @@ use Rattle.exec_task.specs.declared.body.Said.{Said}
 use Rattle.exec_machine.specs.{declared.event.Event.{Event, TheVariants.Orphan}, Choice.Choice.Plain, Progress.Plan, Requests.{dropped, ends_by_drop, outcome_of_drop}, Same.same_end, Tests.is_applied, World.{Own, request_of}}
 use Rattle.exec_moves.specs.{declared.place.{InClosing.InClosing, Place.Place}, Close.{after_letting_go, first_asleep, first_held, held_after, orphan}, Move.move_at, State.{does, goes}, Thing.aside, Told.{has_number, told_of_drop, waker_of, woken_where_awaited}}
 use Rattle.exec_parts.{specs.{declared.parts.{mail.Reply.Reply, record.Record.Record, shared.Shared.Shared, worker.Worker.Worker}, Awaits.{LetsGo, drops}, Ending.{ClosesOn, Orphans}, Phased.IsGoing, Records.{number_in, outcome_in}, Serving.{changed_at, changed_in}, Spots.Spot, View.{Views, awaited_from, awaits_entry, common_of, desk_of, driver_of, own_of, things_with, visible, with_view}}, proofs.Facts.{same_number, same_Some}}
-use Rattle.exec_invariants.proofs.Showing.{map_set}
-use Rattle.exec_invariants.{specs.{Holding.{Box, Hands, IsHolding, Thing, box_of, holder_of, nap_of, thing_of}, Places.one_if as one_when, Rooted.{goes_elsewhere}, Names.{IsAlike, tellers}, Sound.{SoundAt, served_in}, Whole.{IsWhole, Profile, hands_of, wakes_with, with_worker}, Works.{Beside, Steps}}, proofs.{Closes.now_closing, Hearing.unheard, LetSeen.{one_is, one_slot}, LetShown.{SeenLet, let_seen}, LetsNext.{held_found, record_there}, Lined.{gates_seen_same, mapped, opens_same, passing_same, was_sent}, Seats.own_seat, Seeing.common_changed, ServedEnds.{count_both, count_none, count_one}, ServingHolds.Keeps, Serving.{SparesRecords, spares_one}, Slotted.awaited_over, TaskOverFold.{dropped_at_gate, dropped_name, dropped_thing, dropped_worker}, Turning.view_found}}
+use Rattle.exec_invariants.{proofs.{Showing.map_set, Closes.now_closing, Hearing.unheard, LetSeen.{one_is, one_slot}, LetShown.{SeenLet, let_seen}, LetsNext.{held_found, record_there}, Lined.{gates_seen_same, mapped, opens_same, passing_same, was_sent}, Seats.own_seat, Seeing.common_changed, ServedEnds.{count_both, count_none, count_one}, ServingHolds.Keeps, Serving.{SparesRecords, spares_one}, Slotted.awaited_over, TaskOverFold.{dropped_at_gate, dropped_name, dropped_thing, dropped_worker}, Turning.view_found}, specs.{Holding.{Box, Hands, IsHolding, Thing, box_of, holder_of, nap_of, thing_of}, Places.one_if as one_when, Rooted.goes_elsewhere, Names.{IsAlike, tellers}, Sound.{SoundAt, served_in}, Whole.{IsWhole, Profile, hands_of, wakes_with, with_worker}, Works.{Beside, Steps}}}
 use Rattle.exec_closing.proofs.{ClosesHeld.holding_ousted, ClosesMail.{GoesTo, goes_to}, ClosingLets.{LetsAt, beside_lets, lets_to, records_of, sound_lets}, ClosingSlab.{TellsSame, Unholds, tells_same, unheld_now}, OrphansNext.{LetsOne, orphan_goes}, OrphanRecord.{drop_wakes, orphan_found, dropped_outcome, end_same, thing_became, longer, open_outcome, some_held, unawaited, unawaited_so, off}}
 
 module _ {B : Type 0} (w w' : Worker) (s s' : Shared B) (e : Event) (sound : SoundAt (Place.Closing InClosing.Orphan) w s) (by : Orphans w w' s s' e) where

@@ -1,16 +1,13 @@
 -- A closing worker lets go of the sleeper in the first slot, as a step of the machine.
-use Rattle.std.proofs.{Common.{◌≡◌, ◌≢◌, ◌⊎◌, inl, inr, ℕ, zero, suc, ◌+◌, ◌^◌, ◌<◌, ◌==◌, ◌&&◌, ◌||◌, Bool, true, false, not, cond, List, [], ◌∷◌, ◌++◌, count_by, length, map, Option, Some, None, Err, IsSome, refl, sym, ap, subst, ◌∙◌, arith, slice_get, slice_set, if◌then◌else◌}, lemmas.{Bool.{false≢true, eq-eqb}, List.{append-nil, map-append}}}
-use Rattle.std.proofs.lemmas.Bool.{lt-ltb}
+use Rattle.std.proofs.{Common.{◌≡◌, ◌≢◌, ◌⊎◌, inl, inr, ℕ, zero, suc, ◌+◌, ◌^◌, ◌<◌, ◌==◌, ◌&&◌, ◌||◌, Bool, true, false, not, cond, List, [], ◌∷◌, ◌++◌, count_by, length, map, Option, Some, None, Err, IsSome, refl, sym, ap, subst, ◌∙◌, arith, slice_get, slice_set, if◌then◌else◌}, lemmas.{Bool.{false≢true, eq-eqb, lt-ltb}, List.{append-nil, map-append}}}
 use Rattle.exec_base.specs.{Slab.{Slab, is_live, live_count, value_at}, declared.{error.Error.TheVariants.Closed, slab.{Id.Id, Slot.{Slot, TheVariants.{Live, Vacant, Retired}}}, task_no.TaskNo.TaskNo}}
-use Rattle.exec_time.specs.{Sleepers.{completions_of, wakes_of}, declared.{notes.ForwardedResult.ForwardedResult, timers.{Observer.Observer as Watching, Sleeper.Sleeper as Sleeping}}}
-use Rattle.exec_time.specs.declared.timers.Observer.TheVariants as sleep
+use Rattle.exec_time.specs.{Sleepers.{completions_of, wakes_of}, declared.{notes.ForwardedResult.ForwardedResult, timers.{Observer.{Observer as Watching, Observer as sleep}, Sleeper.Sleeper as Sleeping}}}
 use Rattle.exec_waiters.specs.declared.deferred.Deferred.{Deferred}
 use Rattle.exec_task.specs.declared.body.Said.{Said}
 use Rattle.exec_machine.specs.{declared.event.Event.{Event, TheVariants.Turn}, Choice.Choice.Plain, Progress.Plan, Tests.{is_applied, is_asleep}, World.{Common, sleeper_of}}
 use Rattle.exec_moves.specs.{declared.place.{InClosing.InClosing, Place.Place}, Close.{after_letting_go, asleep_after, close_sleeper, first_asleep}, Move.move_at, Thing.aside, Slots.{Slots, first_in, vacated}, State.{Desk, turns}, Told.told_of_fire}
 use Rattle.exec_parts.{specs.{declared.parts.{mail.Reply.Reply, shared.Shared.Shared, sleeping.SleeperRecord.SleeperRecord, task_slot.TaskSlot.TaskSlot, worker.Worker.Worker}, Calls.{sleeper_closed, IsTold}, Ending.{ClosesOn, ClosesSleeper}, Phased.IsGoing, Records.number_in, Spots.Spot, View.{Views, common_of, completions_in, desk_of, driver_of, number_heard, own_of, slots_from, slots_seen, things_with, visible, with_view}}, proofs.Facts.{by_name, not_same, same_number, same_Some}}
-use Rattle.exec_invariants.proofs.Showing.{map_kept, map_set}
-use Rattle.exec_invariants.{specs.{Due.{AreAsleep, IsDue}, Flown.HasFlown, Holding.{Hands, Holder, IsHolding, MayHave, Nap, box_of, holder_of, nap_of, thing_of}, HoldPlaces.{has_wakes_at, is_bare_at}, Rooted.{IsRooted, Watches}, Names.{HasWidth, tellers}, Sound.{SoundAt, served_in}, Whole.{IsWhole, Profile, duties_of, hands_of, wakes_with, with_worker}, Works.{Beside, Steps}}, proofs.{Dedicated.own_root, FiringSlots.{OneBed, alive_at, bed_vacated, first_is}, Hearing.unheard, LetsNext.{asleep_in, first_none, live_value, named_at, number_at, sleeper_there}, Lined.{mapped, passing_same, unmapped}, PoolKept.all_over, ServedEnds.{count_both, count_none, count_one}, ServingHolds.{Keeps, KeepsBy, nap_sent}, Serving.{SparesRecords, spares_sleeper}, Turning.view_found}}
+use Rattle.exec_invariants.{proofs.{Showing.{map_kept, map_set}, Dedicated.own_root, FiringSlots.{OneBed, alive_at, bed_vacated, first_is}, Hearing.unheard, LetsNext.{asleep_in, first_none, live_value, named_at, number_at, sleeper_there}, Lined.{mapped, passing_same, unmapped}, PoolKept.all_over, ServedEnds.{count_both, count_none, count_one}, ServingHolds.{Keeps, KeepsBy, nap_sent}, Serving.{SparesRecords, spares_sleeper}, Turning.view_found}, specs.{Due.{AreAsleep, IsDue}, Flown.HasFlown, Holding.{Hands, Holder, IsHolding, MayHave, Nap, box_of, holder_of, nap_of, thing_of}, HoldPlaces.{has_wakes_at, is_bare_at}, Rooted.{IsRooted, Watches}, Names.{HasWidth, tellers}, Sound.{SoundAt, served_in}, Whole.{IsWhole, Profile, duties_of, hands_of, wakes_with, with_worker}, Works.{Beside, Steps}}}
 use Rattle.exec_closing.proofs.{ClosesMail.{GoesTo, goes_to}, ClosingBeds.{Closable, apart, asleep_closed, closable, named_closed, one_bed, one_less}, ClosingHolds.{WakesNap, holding_closed}, ClosingLets.{LetsAt, beside_lets, lets_to, records_of, sound_lets}, ClosingRooted.{IsOver, rooted_over, told_less, unpaid, unsent, wide_less}, LetsMay.some_live, NoneAsleep.none_live}
 
 -- ONE THAT PASSES is found

@@ -5,8 +5,7 @@ use Rattle.exec_waiters.specs.{States.{counts_pending, is_held_at, pending_count
 use Rattle.exec_machine.specs.{Requests.ends_by_drop, Tests.{is_kept, is_queued}}
 use Rattle.exec_moves.specs.declared.place.{InClosing.InClosing, Place.Place}
 use Rattle.exec_parts.specs.{declared.parts.{mail.Reply.Reply, record.Record.Record, shared.Shared.Shared, worker.Worker.Worker}, Ending.{MayCloseSleeper, MayOrphan}, Records.number_in, View.driver_of}
-use Rattle.exec_invariants.{specs.{Sound.SoundAt, Names.tellers}, proofs.{HoldMail.sum_least, LetsNext.{live_value, named_at}}}
-use Rattle.exec_invariants.proofs.Slotted.{live_at}
+use Rattle.exec_invariants.{specs.{Sound.SoundAt, Names.tellers}, proofs.{HoldMail.sum_least, LetsNext.{live_value, named_at}, Slotted.live_at}}
 
 fewer_places : (d : Deferred Reply Reply) (n m : ℕ) → m ≤ n → HasPlaces d n → HasPlaces d m
 fewer_places = grind arith

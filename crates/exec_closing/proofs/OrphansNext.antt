@@ -1,15 +1,13 @@
 -- Where a closing worker goes on once it has let go of a request, as the machine's worker finds it by its slots.
-use Rattle.std.proofs.{Common.{◌≡◌, ◌≢◌, ℕ, ◌+◌, ◌==◌, ◌&&◌, Bool, true, false, not, Option, Some, None, IsSome, refl, sym, ap, ◌∙◌, arith}, lemmas.Bool.{eq-eqb, false≢true}}
-use Rattle.std.proofs.Math.Bool.{and-false}
+use Rattle.std.proofs.{Common.{◌≡◌, ◌≢◌, ℕ, ◌+◌, ◌==◌, ◌&&◌, Bool, true, false, not, Option, Some, None, IsSome, refl, sym, ap, ◌∙◌, arith}, lemmas.Bool.{eq-eqb, false≢true}, Math.Bool.and-false}
 use Rattle.exec_base.specs.{Slab.value_at, declared.slab.Id.Id}
 use Rattle.exec_waiters.specs.{Events.IsFirstHeld, States.{is_held, is_held_at}, declared.waiter.Entry.Entry}
 use Rattle.exec_driver.specs.Driving.{Driving}
 use Rattle.exec_task.specs.declared.body.Said.{Said}
 use Rattle.exec_machine.specs.{Progress.Plan, World.request_of}
-use Rattle.exec_moves.specs.{declared.{place.{Place.Place}}, Close.{after_letting_go, first_asleep, held_after}}
+use Rattle.exec_moves.specs.{declared.place.Place.Place, Close.{after_letting_go, first_asleep, held_after}}
 use Rattle.exec_parts.{specs.{declared.parts.{mail.Reply.Reply, shared.Shared.Shared, worker.Worker.Worker}, Ending.ClosesOn, Records.number_in, Spots.Spot, View.{Views, common_of, desk_of, driver_of}}, proofs.Facts.{by_name, not_same}}
-use Rattle.exec_invariants.{specs.Sound.SoundAt, proofs.LetsNext.{first_found, first_none, live_value, named_at, none_asleep, number_at, observed_in, some_asleep}}
-use Rattle.exec_invariants.proofs.Slotted.{live_at}
+use Rattle.exec_invariants.{specs.Sound.SoundAt, proofs.{LetsNext.{first_found, first_none, live_value, named_at, none_asleep, number_at, observed_in, some_asleep}, Slotted.live_at}}
 
 module _ {B L : Type 0} (left : B → L) (spot : L → Option Said → Spot) (p : Plan) (vs : Views) (q : Place) (w : Worker) (s : Shared B) (sound : SoundAt q w s) (id : Id) (there : IsSome (value_at (driver_of w).requests id)) (d' : Driving Reply Reply) where
   -- of its requests one is free, or held by nobody, and the others stay

@@ -1,13 +1,11 @@
 -- The last steps of a closing, each as a step of the machine: the barrier is passed, the mailbox closed, and the worker ends.
-use Rattle.std.{proofs.{Common.{◌≡◌, inl, ℕ, suc, ◌*◌, ◌+◌, ◌^◌, ◌≤◌, ◌&&◌, ◌||◌, ◌<◌, Bool, true, false, not, Contains, List, [], ◌∷◌, ◌++◌, map, Option, None, Some, refl, sym, ap, subst, ◌∙◌, arith, slice_get, slice_set}, lemmas.{Bool.false≢true, List.length-set}}, specs.List.list_all}
-use Rattle.std.proofs.Math.Bool.{and-false}
+use Rattle.std.{proofs.{Common.{◌≡◌, inl, ℕ, suc, ◌*◌, ◌+◌, ◌^◌, ◌≤◌, ◌&&◌, ◌||◌, ◌<◌, Bool, true, false, not, Contains, List, [], ◌∷◌, ◌++◌, map, Option, None, Some, refl, sym, ap, subst, ◌∙◌, arith, slice_get, slice_set}, lemmas.{Bool.false≢true, List.length-set}, Math.Bool.and-false}, specs.List.list_all}
 use Rattle.exec_words.specs.Reserved.{Reserved}
 use Rattle.exec_task.specs.{Phases.is_polled, declared.body.Said.Said}
 use Rattle.exec_machine.specs.{declared.{event.Event.{Event, TheVariants.{Turn, End}}, state.WorkerPhase.WorkerPhase}, Choice.Choice.{Plain, Passes}, Closing.{gone_with, is_over_or_root, is_pool_over}, Tests.{all_left, is_open}}
-use Rattle.exec_moves.specs.{declared.{place.{InClosing.InClosing, Place.Place}}, Move.move_at, Seen.polls_at}
+use Rattle.exec_moves.specs.{declared.place.{InClosing.InClosing, Place.Place}, Move.move_at, Seen.polls_at}
 use Rattle.exec_parts.{specs.{Calls.sleeper_gone_with, declared.parts.{seat.Seat.Seat as Chair, shared.Shared.Shared, sleeping.SleeperRecord.SleeperRecord, task_slot.TaskSlot.TaskSlot, worker.Worker.Worker}, Phased.{IsGoing, IsPhased, TurnsChair, closes_at, closing_in, has_stopped, is_complete, root_over, stage_of}, Roles.is_pool, MailPosts.IsMailbox, Spots.Spot, View.{common_of, desk_of, driver_of, message_of, numbers_of_passing, own_of, task_seen, things_with, visible, with_view}}, proofs.Facts.{by_number, set_there}}
-use Rattle.exec_invariants.proofs.Showing.{map_kept}
-use Rattle.exec_invariants.{specs.{Hearing.StillHears, Drained.{Duties, HaveLeft, IsPool}, Holding.{Mail, box_of}, Places.{drops_at, is_pooled_at}, Sound.{Aims, HasBatch, IsMyMail, LetsGoAt, SoundAt, has_wakes_at}, Whole.{HasWhole, duties_of, with_worker}, Works.{Beside, Steps}}, proofs.{Dedicated.{as_long, chair_of_pool}, Aside.{queue_of_chair, queues_set, seats_own}, Closes.{closed_by, follows_in, now_closing, seats_on}, PoolShards.none_in_set, PoolClosing.pool_left, PoolKept.{all_over, chosen_own, gates_set, pool_of}, Seats.{own_seat, seats_all}, Hearing.unheard, Shutting.{beside_closing, holds_calm, onward, sound_closing, GoesOnlyOn, Pools, Ready, pools_calm, seats_show, shown_as}, Turning.view_found}}
+use Rattle.exec_invariants.{proofs.{Showing.map_kept, Dedicated.{as_long, chair_of_pool}, Aside.{queue_of_chair, queues_set, seats_own}, Closes.{closed_by, follows_in, now_closing, seats_on}, PoolShards.none_in_set, PoolClosing.pool_left, PoolKept.{all_over, chosen_own, gates_set, pool_of}, Seats.{own_seat, seats_all}, Hearing.unheard, Shutting.{beside_closing, holds_calm, onward, sound_closing, GoesOnlyOn, Pools, Ready, pools_calm, seats_show, shown_as}, Turning.view_found}, specs.{Hearing.StillHears, Drained.{Duties, HaveLeft, IsPool}, Holding.{Mail, box_of}, Places.{drops_at, is_pooled_at}, Sound.{Aims, HasBatch, IsMyMail, LetsGoAt, SoundAt, has_wakes_at}, Whole.{HasWhole, duties_of, with_worker}, Works.{Beside, Steps}}}
 use Rattle.exec_closing.proofs.{NoneAsleep.none_asleep, ClosingNaps.{AreGone, alarms_gone, shown_gone, sound_gone, spares_gone, whole_gone}}
 
 -- LISTS

@@ -4,8 +4,7 @@ use Rattle.exec_task.specs.declared.body.Said.{Said}
 use Rattle.exec_machine.specs.{declared.{config.Configuration.Configuration, event.Event.{Event, TheVariants.Send}, state.{Letter.Letter, MailMessage.TheVariants.Root, Next.Next}}, Allowed.allowed, Choice.Payer.ByStop, Closing.letters_to_roots, Mail.after_post, Progress.Plan, Tests.AllTrue, World.{no_seat, seat_of}}
 use Rattle.exec_moves.specs.{declared.{handing.{AfterPop.AfterPop, AfterSend.AfterSend, AfterSignal.AfterSignal, InPop.InPop, InSignal.InSignal}, place.{InClosing.InClosing, Place.Place}}, Move.move_at, Parts.tells_from, Seen.{next_at, serves_at}, Send.after_posting, State.Desk, Thing.{mailbox_of, set_mailbox}}
 use Rattle.exec_parts.{specs.{declared.parts.{seat.Seat.Seat as Chair, shared.Shared.Shared, worker.Worker.Worker}, Phased.{IsGoing, IsPhased, closes_at, closing_in, stage_of}, Pooled.{Sends, asks_if_sent}, Roles.is_pool, Spots.Spot, View.{Views, Visible, common_of, desk_of, driver_of, letters_in, own_of, owed_at, seat_seen, seats_seen, things_with, visible, with_view}}, proofs.Facts.{false_from_ne_true, not_same, set_elsewhere}}
-use Rattle.exec_invariants.proofs.Showing.{own_word_seen}
-use Rattle.exec_invariants.{specs.{Holding.{holder_of, nap_of, thing_of}, Places.{drops_at, is_pooled_at, no_drops}, Sound.{Aims, HasBatch, LetsGoAt, SoundAt, has_wakes_at}, Spares.SparesChair, Whole.{HasWhole, hands_of, with_worker}, Works.{Steps, Suits}}, proofs.{Dedicated.{as_long, chair_of_pool}, Aside.{queue_of_chair, queues_set, seats_other}, Closes.{closed_by, follows_in, follows_pop}, PoolKept.{gate_spared, gates_set}, Posting.{Arrival, IsArrival, arrival, asks_as, asks_by, chair_by, choice_by, event_as, event_by, inbox_seen, mailbox_by, posted_as, posted_shows, posted_spares, posting_as, root_message_as, seat_as, seat_by}, RootMail.holding_posted, Seats.{chair_set, seat_there as seen_there}, Shutting.{Follows, Ready, pools_calm, shown_as}, Turning.{set_found, view_found}}}
+use Rattle.exec_invariants.{proofs.{Showing.own_word_seen, Dedicated.{as_long, chair_of_pool}, Aside.{queue_of_chair, queues_set, seats_other}, Closes.{closed_by, follows_in, follows_pop}, PoolKept.{gate_spared, gates_set}, Posting.{Arrival, IsArrival, arrival, asks_as, asks_by, chair_by, choice_by, event_as, event_by, inbox_seen, mailbox_by, posted_as, posted_shows, posted_spares, posting_as, root_message_as, seat_as, seat_by}, RootMail.holding_posted, Seats.{chair_set, seat_there as seen_there}, Shutting.{Follows, Ready, pools_calm, shown_as}, Turning.{set_found, view_found}}, specs.{Holding.{holder_of, nap_of, thing_of}, Places.{drops_at, is_pooled_at, no_drops}, Sound.{Aims, HasBatch, LetsGoAt, SoundAt, has_wakes_at}, Spares.SparesChair, Whole.{HasWhole, hands_of, with_worker}, Works.{Steps, Suits}}}
 use Rattle.exec_closing.proofs.Parting.{on_seats}
 
 follows_signal : (j : ℕ) (n : ℕ) → Follows (Place.Signal InSignal.SetLatch j (AfterSignal.Send (AfterSend.Tell n)))

@@ -1,16 +1,13 @@
 -- A TASK IS CLEARED that a visit took out of the set: it may be, what the machine sees of it, and the step where it isn't over by that.
-use Rattle.std.proofs.{Common.{◌≡◌, ℕ, ◌<◌, ◌==◌, ◌&&◌, not, Bool, true, false, List, [], ◌∷◌, length, map, Option, Some, None, refl, sym, ap, subst, ◌∙◌, slice_get, slice_set, if◌then◌else◌}, lemmas.{Bool.false≢true, List.map-set, Option.slice_get_within}}
-use Rattle.std.proofs.Common.{arith}
-use Rattle.std.proofs.Math.Bool.{and-false}
+use Rattle.std.proofs.{Common.{◌≡◌, ℕ, ◌<◌, ◌==◌, ◌&&◌, not, Bool, true, false, List, [], ◌∷◌, length, map, Option, Some, None, refl, sym, ap, subst, ◌∙◌, slice_get, slice_set, if◌then◌else◌, arith}, lemmas.{Bool.false≢true, List.map-set, Option.slice_get_within}, Math.Bool.and-false}
 use Rattle.exec_base.specs.Slab.{Slab}
 use Rattle.exec_time.specs.declared.timers.Sleeper.{Sleeper as Sleeping}
 use Rattle.exec_waiters.specs.declared.waiter.Entry.{Entry}
 use Rattle.exec_task.specs.{Phases.{is_polled, cleared}, TaskSet.IsFor, declared.{body.Said.Said, drain.Drain.Drain, task.Phase.Phase}}
-use Rattle.exec_machine.specs.{declared.{event.Event.{Event, TheVariants.Clear}, state.{Letter.Letter, Next.Next, TaskPhase.TaskPhase, Waiting.Waiting}}, Choice.Choice.Plain, Closing.{ends_by_clear as machine_ends}, Progress.Plan, Same.is_none, Tasks.{sleepers_after_waking_up}, Tests.{is_at_large, is_closing, AllTrue}, World.{Common, Own, Task, seat_of, task_of}}
+use Rattle.exec_machine.specs.{declared.{event.Event.{Event, TheVariants.Clear}, state.{Letter.Letter, Next.Next, TaskPhase.TaskPhase, Waiting.Waiting}}, Choice.Choice.Plain, Closing.ends_by_clear as machine_ends, Progress.Plan, Same.is_none, Tasks.sleepers_after_waking_up, Tests.{is_at_large, is_closing, AllTrue}, World.{Common, Own, Task, seat_of, task_of}}
 use Rattle.exec_moves.specs.{declared.{handing.AfterCancels.AfterCancels, place.{InClosing.InClosing, Place.Place}}, Close.{told_of_clear, visits_on as visits_desk}, Parts.{after_visit, cancels_left}, State.{Desk, Moved, Things, goes}, Told.lets_go_all}
 use Rattle.exec_parts.{specs.{declared.parts.{mail.Reply.Reply, shared.Shared.Shared, sleeping.SleeperRecord.SleeperRecord, task_slot.TaskSlot.TaskSlot, worker.Worker.Worker}, Ending.{ClearsTask, MayClear, ends_by_clear}, Phased.{HasPassed, IsGoing, IsPrepared, closes_at, has_left, has_shut, has_stopped, is_complete, root_over}, Pooled.cleared_slot, Spots.Spot, View.{Views, common_of, desk_of, driver_of, letters_in, own_of, phase_seen, spot_by, task_seen, things_with, visible, with_view}}, proofs.Facts.{same_number, same_Some, set_there}}
-use Rattle.exec_invariants.proofs.Showing.{map_kept}
-use Rattle.exec_invariants.{specs.{Hearing.StillHears, Gates.AreLinedUp, Holding.{IsHolding, MayHave, Nap, awaited_in, box_of, holder_of, nap_of, thing_of}, Places.{drops_at, no_drops}, Sound.{Aims, HasBatch, LetsGo, SoundAt, served_in}, Whole.{HasWhole, hands_of, with_worker}, Works.{Beside, Steps, Suits, Works}}, proofs.{Closes.{follows_in, now_closing, root_there}, ClosesPool.stays, Dedicated.chair_of_pool, Hearing.{hears_over, hears_so}, Here.going_on, Lined.{lines_same, unmapped}, PoolShards.all_passed, Seats.own_seat, ServingHolds.Keeps, Shutting.sound_closing, Slots.spares_slot, TaskOverPlaces.IsQuiet, TaskOverFold.{HoldsAll, LetsSeen}, TaskOverLetters.no_letters, TaskOverMay.{HasAll, has_all, keeps_tasks, may_let_go}, TaskOverSound.{IsAside, IsOwing, own_keeps}, TaskOverWhole.IsPast, Turning.view_found, TaskTakes.holder_there}}
+use Rattle.exec_invariants.{proofs.{Showing.map_kept, Closes.{follows_in, now_closing, root_there}, ClosesPool.stays, Dedicated.chair_of_pool, Hearing.{hears_over, hears_so}, Here.going_on, Lined.{lines_same, unmapped}, PoolShards.all_passed, Seats.own_seat, ServingHolds.Keeps, Shutting.sound_closing, Slots.spares_slot, TaskOverPlaces.IsQuiet, TaskOverFold.{HoldsAll, LetsSeen}, TaskOverLetters.no_letters, TaskOverMay.{HasAll, has_all, keeps_tasks, may_let_go}, TaskOverSound.{IsAside, IsOwing, own_keeps}, TaskOverWhole.IsPast, Turning.view_found, TaskTakes.holder_there}, specs.{Hearing.StillHears, Gates.AreLinedUp, Holding.{IsHolding, MayHave, Nap, awaited_in, box_of, holder_of, nap_of, thing_of}, Places.{drops_at, no_drops}, Sound.{Aims, HasBatch, LetsGo, SoundAt, served_in}, Whole.{HasWhole, hands_of, with_worker}, Works.{Beside, Steps, Suits, Works}}}
 use Rattle.exec_closing.proofs.{Parting.stopped_now, TaskClears.{ToClear, body_again, cleared_with, complete_cleared, ends_not, going_cleared, keeps_cleared, sound_beside, spares_cleared, to_clear, whole_cleared}, Visiting.positive}
 
 -- WHERE A DRAIN GOES ON

@@ -1,6 +1,5 @@
 -- A TASK IS CLEARED that a visit took out of the set: its slot, and what that leaves of the balances.
-use Rattle.std.proofs.{Common.{rules, ◌≡◌, ◌≢◌, ℕ, ◌+◌, ◌<◌, ◌≤◌, ◌==◌, ◌&&◌, ◌||◌, not, sum_by, Bool, true, false, Contains, List, length, map, option_to_list, Option, Some, None, refl, sym, ap, subst, ◌∙◌, arith, slice_get, slice_set, if◌then◌else◌}, lemmas.{List.length-set}}
-use Rattle.std.specs.List.{range_with_len}
+use Rattle.std.{proofs.{Common.{rules, ◌≡◌, ◌≢◌, ℕ, ◌+◌, ◌<◌, ◌≤◌, ◌==◌, ◌&&◌, ◌||◌, not, sum_by, Bool, true, false, Contains, List, length, map, option_to_list, Option, Some, None, refl, sym, ap, subst, ◌∙◌, arith, slice_get, slice_set, if◌then◌else◌}, lemmas.List.length-set}, specs.List.range_with_len}
 use Rattle.exec_words.specs.Idle.{is_in}
 use Rattle.exec_task.specs.{Phases.{is_polled, cleared}, declared.{drain.Drain.Drain, runnable.Runnable.Runnable, task.Phase.Phase}}
 use Rattle.exec_moves.specs.{declared.place.{InClosing.InClosing, Place.Place}, Seen.polls_at}

@@ -1,11 +1,10 @@
 -- The visits of the drain, each as a step of the machine: the newest task of a shard is taken out, or the shard is passed.
 use Rattle.std.proofs.{Common.{◌≡◌, inl, inr, ℕ, zero, suc, ◌+◌, ◌-◌, ◌==◌, ◌<◌, Bool, true, false, List, [], ◌∷◌, ◌++◌, length, map, take, Option, None, Some, refl, sym, ap, subst, ◌∙◌, arith, slice_get, slice_set, slice_index_or, if◌then◌else◌, ◌≢◌}, lemmas.{Bool.{false≢true, Decides.nat_tests}, List.{length-set, map-append, set-get_or}}}
 use Rattle.exec_task.specs.{TaskSet.{AreAtHome, IsFor, Set, at_number, passed, shard_at}, declared.{body.Said.Said, drain.Drain.Drain}}
-use Rattle.exec_machine.specs.{declared.{event.Event.{Event, TheVariants.Turn}, state.Next.Next}}
+use Rattle.exec_machine.specs.declared.{event.Event.{Event, TheVariants.Turn}, state.Next.Next}
 use Rattle.exec_moves.specs.{declared.place.{InClosing.InClosing, Place.Place}, Close.visit, Parts.after_visit, Pop.shard_count, Seen.{next_in_closing, polls_at}, State.turns}
 use Rattle.exec_parts.{specs.{declared.parts.{shared.Shared.Shared, worker.Worker.Worker}, Phased.{HasPassed, IsGoing, IsPrepared, closes_at, has_left, has_shut, has_stopped, root_over}, Pooled.{PassesShard, TakesTask, Visited}, Spots.Spot, View.{common_of, desk_of, driver_of, owed_at, visible}}, proofs.Facts.{by_number, not_same, same_number}}
-use Rattle.exec_invariants.proofs.Showing.{map_set}
-use Rattle.exec_invariants.{specs.{Drained.{Duties, IsBefore, IsHeldOnce, in_set}, Places.{clears_at, drops_at, no_drops, one_if}, Sound.{Aims, HasBatch, LetsGoAt, SoundAt}, Whole.{duties_of, is_number, with_worker}, Works.Steps}, proofs.{Closes.{closed_by, follows_in}, ClosesPool.{holds_still, stays, unset}, PoolClosing.{Recounts, pool_recounted}, PoolShards.{all_passed, front_none, home_set, newest_taken, passed_on, passed_still, shard_elsewhere}, PoolKept.{chosen_other, chosen_own, gates_same}, Shutting.{GoesOnlyOn, Pools, pools_calm, shown_as}, Slots.before_barrier, Turning.view_found}}
+use Rattle.exec_invariants.{proofs.{Showing.map_set, Closes.{closed_by, follows_in}, ClosesPool.{holds_still, stays, unset}, PoolClosing.{Recounts, pool_recounted}, PoolShards.{all_passed, front_none, home_set, newest_taken, passed_on, passed_still, shard_elsewhere}, PoolKept.{chosen_other, chosen_own, gates_same}, Shutting.{GoesOnlyOn, Pools, pools_calm, shown_as}, Slots.before_barrier, Turning.view_found}, specs.{Drained.{Duties, IsBefore, IsHeldOnce, in_set}, Places.{clears_at, drops_at, no_drops, one_if}, Sound.{Aims, HasBatch, LetsGoAt, SoundAt}, Whole.{duties_of, is_number, with_worker}, Works.Steps}}
 use Rattle.exec_closing.proofs.Parting.{stopped_now}
 
 abbrev numbers : List (ℕ × Unit {0}) → List ℕ

@@ -2,31 +2,25 @@
 -- the clock, the kernel and peers.
 use Rattle.std.{proofs.{Common.{◌≡◌, ℕ, zero, suc, ◌&&◌, ◌||◌, Bool, not, List, [], ◌∷◌, length, map, Option, Some, None, refl, sym, ap, ◌∙◌, arith, ◌+◌, true, false, slice_get, slice_set, option_map}, lemmas.{List.{length-map, map-set}, Bool.{false≢true, and_parts}, Option.{slice_get-map, slice_get_within, get_or_from_slice_get}}}, specs.{List.list_all, Prelude.slice_index_or}}
 use Rattle.exec_outcomes.specs.{Lawful.{window_of, is_lawful}, declared.outcome.OpResult.OpResult}
-use Rattle.exec_machine.specs.{declared.{step.Action.Action, event.{Event.Event, StepResult.TheVariants.Did}, state.{Rest.Rest, Request.Request}}, Callers.{is_enabled, is_half_done, may_work, after_landing, common_by}, Progress.Plan, Requests.{asked_of, cursor_of}, Tests.{is_awake, has_ended, is_flying}, World.{Seat, no_seat, no_request, Common, request_of}, Choice.Choice.Plain, Deadlines.roused_at}
+use Rattle.exec_machine.specs.{declared.{step.Action.Action, event.{Event.Event, StepResult.TheVariants.Did}, state.{Call.Call, Rest.Rest, Request.Request}}, Callers.{is_enabled, is_half_done, may_work, after_landing, common_by}, Progress.Plan, Requests.{asked_of, cursor_of}, Tests.{is_awake, has_ended, is_flying}, World.{Seat, no_seat, no_request, Common, request_of}, Choice.Choice.Plain, Deadlines.roused_at}
 use Rattle.exec_moves.specs.{declared.handing.CallPlace.CallPlace, Plays.{Played, Playing, desk_of as desk_at, last_told}, State.{Desk, WakePoll, wake_poll_of, passed}, Thing.set_wake_poll}
 use Rattle.exec_parts.specs.{Spots.Spot, View.{Visible, visible, seat_seen, seats_seen, task_seen, Views, with_view, own_of, desk_of, common_of, polls_seen, queue_at, inbox_at, things_with, word_at}, declared.parts.{seat.Seat.Seat as Chair, record.Record.Record, shared.Shared.Shared, worker.Worker.Worker}, Phased.TurnsChair, Records.{rest_at, reached, roused}}
-use Rattle.exec_invariants.{specs.Drained.{HaveLeft, IsLetOn}, proofs.{SparedRecord.there_within, MailApplies.seats_viewed, Turning.set_found, Seats.{chair_set, seat_there}}}
+use Rattle.exec_invariants.{specs.Drained.{HaveLeft, IsLetOn}, proofs.{SparedRecord.there_within, MailApplies.seats_viewed, Turning.set_found, Seats.{chair_set, seat_there}, Showing.polls_kept}}
 use Rattle.exec_polling.specs.{Calling.{call_of, is_free, desk_of_caller}, declared.caller.Caller.Caller}
-use Rattle.exec_core.{proofs.Lifting.{unchanged, suits_it, desk_there, views_with, playing_by, world_by, Said}, specs.{Lift.{world, may_take, may_call_in, may_go_on_in, may_work_in, may_land_in, has_begun, sleeps, all_left_of, Stands, playing, views, Takes, Sees, Rings, EndsPoll, Lands}, declared.executor.Core.Core}}
-use Rattle.exec_machine.specs.declared.step.Action.TheVariants as action
-use Rattle.exec_machine.specs.declared.state.Call.TheVariants as half
-use Rattle.exec_machine.specs.declared.event.Event.TheVariants as event
-use Rattle.exec_machine.specs.declared.state.Rest.TheVariants as rest
+use Rattle.exec_core.{proofs.Lifting.{unchanged, suits_it, desk_there, views_with, playing_by, world_by, Said, owned}, specs.{Lift.{world, may_take, may_call_in, may_go_on_in, may_work_in, may_land_in, has_begun, sleeps, all_left_of, Stands, playing, views, Takes, Sees, Rings, EndsPoll, Lands}, declared.executor.Core.Core}}
 
 -- what is found by a chair is found by the seat that is seen of it
 by_chair : (vs : List Visible) (seats : List Chair) (i : ℕ) (f : Option Chair → Bool) (g : Seat → Bool) → length vs ≡ length seats → f None ≡ g no_seat
     → ((v : Visible) (chair : Chair) → f (Some chair) ≡ g (seat_seen v chair)) → f (slice_get seats i) ≡ g (slice_index_or (seats_seen vs seats) i no_seat)
 by_chair [] [] i f g h none some = none
-by_chair [] (chair ∷ chairs) i f g h none some = absurd (omega (arith, h))
-by_chair (v ∷ vs) [] i f g h none some = absurd (omega (arith, h))
 by_chair (v ∷ vs) (chair ∷ chairs) zero f g h none some = some v chair
 by_chair (v ∷ vs) (chair ∷ chairs) (suc i) f g h none some = by_chair vs chairs i f g (omega (arith, h)) none some
+by_chair vs seats i f g h none some = absurd (omega (arith, h))
 
 all_seen : (vs : List Visible) (seats : List Chair) → length vs ≡ length seats → all_left_of seats ≡ list_all (λ seat. seat.left || not seat.pool) (seats_seen vs seats)
 all_seen [] [] h = refl
-all_seen [] (chair ∷ chairs) h = absurd (omega (arith, h))
-all_seen (v ∷ vs) [] h = absurd (omega (arith, h))
 all_seen (v ∷ vs) (chair ∷ chairs) h = ap (λ b. (chair.left || not chair.pool) && b) (all_seen vs chairs (omega (arith, h)))
+all_seen vs seats h = absurd (omega (arith, h))
 
 by_map : {A X : Type 0} (v : A → X) (xs : List A) (i : ℕ) (d : X) (f : Option A → Bool) (g : X → Bool) → f None ≡ g d → ((a : A) → f (Some a) ≡ g (v a)) → f (slice_get xs i) ≡ g (slice_index_or (map v xs) i d)
 by_map v [] i d f g none some = none
@@ -40,30 +34,30 @@ free_as = grind arith
 calling_as : (p : CallPlace) → not (is_free p) ≡ is_half_done (call_of p)
 calling_as = grind arith
 
-may_call_as : (cs : List Caller) (j : ℕ) → may_call_in (slice_get cs j) ≡ not (is_half_done (slice_index_or (map (λ (x : Caller). call_of x.place) cs) j half.HalfDone))
-may_call_as cs j = by_map (λ (x : Caller). call_of x.place) cs j half.HalfDone may_call_in (λ x. not (is_half_done x)) refl (λ x. free_as x.place)
+may_call_as : (cs : List Caller) (j : ℕ) → may_call_in (slice_get cs j) ≡ not (is_half_done (slice_index_or (map (λ (x : Caller). call_of x.place) cs) j Call.HalfDone))
+may_call_as cs j = by_map (λ (x : Caller). call_of x.place) cs j Call.HalfDone may_call_in (λ x. not (is_half_done x)) refl (λ x. free_as x.place)
 
 module _ {B L : Type 0} (left : B → L) (spot : L → Option Said → Spot) where
   pub enabled_as : (p : Plan) (c : Core B) (a : Action) → length c.workers.items ≡ length c.shared.seats.items → may_take c a ≡ is_enabled (world left spot p c).common a
-  enabled_as p c (action.Work i) seats =
+  enabled_as p c (Action.Work i) seats =
       let vs = map visible c.workers.items in
       let same : length vs ≡ length c.shared.seats.items = length-map c.workers.items visible ∙ seats in
       by_chair vs c.shared.seats.items i (may_work_in c.shared.seats.items) (may_work (world left spot p c).common) same refl
       (λ v chair. ap (λ b. is_awake chair.rest && not (has_ended chair.phase) && not (chair.pool && chair.left && not b)) (all_seen vs c.shared.seats.items same))
-  enabled_as p c (action.Clock d) seats = refl
-  enabled_as p c (action.Land r n) seats =
+  enabled_as p c (Action.Clock d) seats = refl
+  enabled_as p c (Action.Land r n) seats =
       by_map (λ x. x.shown) c.shared.requests.items r no_request (λ x. may_land_in x n) (λ it. is_flying it.phase && is_lawful (window_of (asked_of it.operation) (cursor_of it.operation)) n) refl (λ x. refl)
-  enabled_as p c (action.SetBusy i) seats =
+  enabled_as p c (Action.SetBusy i) seats =
       by_chair (map visible c.workers.items) c.shared.seats.items i has_begun (λ seat. not (has_ended seat.phase)) (length-map c.workers.items visible ∙ seats) refl (λ v chair. refl)
-  enabled_as p c (action.EndPoll i) seats =
+  enabled_as p c (Action.EndPoll i) seats =
       by_chair (map visible c.workers.items) c.shared.seats.items i has_begun (λ seat. not (has_ended seat.phase)) (length-map c.workers.items visible ∙ seats) refl (λ v chair. refl)
-  enabled_as p c (action.Stir i) seats =
+  enabled_as p c (Action.Stir i) seats =
       by_chair (map visible c.workers.items) c.shared.seats.items i sleeps (λ seat. not (is_awake seat.rest)) (length-map c.workers.items visible ∙ seats) refl (λ v chair. refl)
-  enabled_as p c (action.Peer l) seats = refl
-  enabled_as p c (action.Spawn j k) seats = may_call_as c.callers.items j
-  enabled_as p c (action.Wake j t) seats = grind (arith, may_call_as c.callers.items j, length-map c.shared.tasks.items (task_seen left spot))
-  enabled_as p c (action.GoOn j) seats =
-      by_map (λ (x : Caller). call_of x.place) c.callers.items j half.Nothing may_go_on_in is_half_done refl (λ x. calling_as x.place)
+  enabled_as p c (Action.Peer l) seats = refl
+  enabled_as p c (Action.Spawn j k) seats = may_call_as c.callers.items j
+  enabled_as p c (Action.Wake j t) seats = grind (arith, may_call_as c.callers.items j, length-map c.shared.tasks.items (task_seen left spot))
+  enabled_as p c (Action.GoOn j) seats =
+      by_map (λ (x : Caller). call_of x.place) c.callers.items j Call.Nothing may_go_on_in is_half_done refl (λ x. calling_as x.place)
 
 -- WHAT MAY BE TAKEN IS THERE
 
@@ -94,9 +88,9 @@ module _ {B : Type 0} where
 
   -- each request is one of a worker that is there
   pub owner_there : (c : Core B) (r : ℕ) (it : Record) → Stands c → slice_get c.shared.requests.items r ≡ Some it → (w : Worker) × (slice_get c.workers.items it.shown.worker ≡ Some w)
-  owner_there c r it stands there = there_within c.workers.items it.shown.worker (stands.owned r it there)
+  owner_there c r it stands there = there_within c.workers.items it.shown.worker (owned c stands r it there)
 
-  pub let_on_there : (c : Core B) (i : ℕ) (w : Worker) → Stands c → slice_get c.workers.items i ≡ Some w → may_take c (action.Work i) ≡ true → IsLetOn w.index c.shared.seats.items
+  pub let_on_there : (c : Core B) (i : ℕ) (w : Worker) → Stands c → slice_get c.workers.items i ≡ Some w → may_take c (Action.Work i) ≡ true → IsLetOn w.index c.shared.seats.items
   let_on_there c i w stands was may chair there passed =
       let it = stands.together.sound i w was in
       let_on_by c.shared.seats.items (slice_get c.shared.seats.items i) may chair (ap (slice_get c.shared.seats.items) (sym it.0) ∙ there) (and_parts chair.pool _ (sym (it.1.phased chair there).left ∙ passed)).0 passed
@@ -113,9 +107,8 @@ roused_one : (clock : ℕ) (v : Visible) (chair : Chair) (x : Rest) → seat_see
 roused_one = grind arith
 
 all_roused : (clock : ℕ) (vs : List Visible) (seats : List Chair) → seats_seen vs (map (reached clock) seats) ≡ map (roused_at clock) (seats_seen vs seats)
-all_roused clock [] seats = refl
-all_roused clock (v ∷ vs) [] = refl
 all_roused clock (v ∷ vs) (chair ∷ chairs) = rw (all_roused clock vs chairs, roused_one clock v chair chair.rest) refl
+all_roused clock vs seats = refl
 
 seat_is : (vs : List Visible) (seats : List Chair) (i : ℕ) (v : Visible) (chair : Chair) → slice_get vs i ≡ Some v → slice_get seats i ≡ Some chair → slice_index_or (seats_seen vs seats) i no_seat ≡ seat_seen v chair
 seat_is vs seats i v chair seen there = get_or_from_slice_get (seats_seen vs seats) i (seat_seen v chair) no_seat (seat_there vs seats i v chair seen there)
@@ -127,22 +120,13 @@ reached_kept f clock [] same = refl
 reached_kept f clock (seat ∷ seats) same = rw (same seat, reached_kept f clock seats same) refl
 
 polls_reached : (clock : ℕ) (vs : List Visible) (seats : List Chair) → polls_seen vs (map (reached clock) seats) ≡ polls_seen vs seats
-polls_reached clock [] seats = refl
-polls_reached clock (v ∷ vs) [] = refl
 polls_reached clock (v ∷ vs) (seat ∷ seats) = rw (polls_reached clock vs seats) refl
-
-polls_roused : (vs : List Visible) (seats : List Chair) (i : ℕ) (chair : Chair) → slice_get seats i ≡ Some chair → polls_seen vs (slice_set seats i (roused chair)) ≡ polls_seen vs seats
-polls_roused [] seats i chair there = refl
-polls_roused (v ∷ vs) [] i chair there = absurd (cc)
-polls_roused (v ∷ vs) (seat ∷ seats) zero chair there = grind arith
-polls_roused (v ∷ vs) (seat ∷ seats) (suc i) chair there = rw (polls_roused vs seats i chair there) refl
+polls_reached clock vs seats = refl
 
 polls_busy : (vs : List Visible) (seats : List Chair) (i : ℕ) (v : Visible) → slice_get vs i ≡ Some v → polls_seen (slice_set vs i (record v { busy = true })) seats ≡ polls_seen vs seats
 polls_busy [] seats i v there = absurd (cc)
-polls_busy (x ∷ vs) [] zero v there = refl
-polls_busy (x ∷ vs) [] (suc i) v there = refl
-polls_busy (x ∷ vs) (seat ∷ seats) zero v there = grind arith
 polls_busy (x ∷ vs) (seat ∷ seats) (suc i) v there = rw (polls_busy vs seats i v there) refl
+polls_busy (x ∷ vs) seats i v there = grind arith
 
 module _ {B L : Type 0} (left : B → L) (spot : L → Option Said → Spot) where
   -- a step of no party: the whole is as before, but for what all share, and what the machine has of that
@@ -154,14 +138,14 @@ module _ {B L : Type 0} (left : B → L) (spot : L → Option Said → Spot) whe
   played_as : (a : Action) (e : Event) (x y : Playing) → x ≡ y → (let it : Played = record { told = (record { action = a; said = Did e }, Plain); next = y } in it) ≡ record { told = (record { action = a; said = Did e }, Plain); next = x }
   played_as a e x y same = ap (λ n. (let it : Played = record { told = (record { action = a; said = Did e }, Plain); next = n } in it)) (sym same)
 
-  pub clock_moved : (p : Plan) (c d : Core B) (by : ℕ) → Stands c → may_take c (action.Clock by) ≡ true → d.workers ≡ c.workers → d.callers ≡ c.callers
+  pub clock_moved : (p : Plan) (c d : Core B) (by : ℕ) → Stands c → may_take c (Action.Clock by) ≡ true → d.workers ≡ c.workers → d.callers ≡ c.callers
       → d.shared.seats.items ≡ map (reached (c.shared.clock + by)) c.shared.seats.items → d.shared ≡ record c.shared { clock = c.shared.clock + by; seats = d.shared.seats }
-      → Takes left spot p c (action.Clock by) event.Clock d
+      → Takes left spot p c (Action.Clock by) Event.Clock d
   clock_moved = grind (arith, all_roused, things_kept, reached_kept, polls_reached, enabled_as, by_nobody, played_as)
 
-  pub stirred : (p : Plan) (c d : Core B) (i : ℕ) → Stands c → may_take c (action.Stir i) ≡ true → d.workers ≡ c.workers → d.callers ≡ c.callers
+  pub stirred : (p : Plan) (c d : Core B) (i : ℕ) → Stands c → may_take c (Action.Stir i) ≡ true → d.workers ≡ c.workers → d.callers ≡ c.callers
       → TurnsChair i roused c.shared d.shared → d.shared ≡ record c.shared { seats = d.shared.seats }
-      → Takes left spot p c (action.Stir i) event.Stir d
+      → Takes left spot p c (Action.Stir i) Event.Stir d
   stirred p c d i stands may workers callers turns kept =
       let vs = views c in
       let chair = found_by sleeps (slice_get c.shared.seats.items i) refl may in
@@ -169,18 +153,18 @@ module _ {B L : Type 0} (left : B → L) (spot : L → Option Said → Spot) whe
       let seen : slice_get vs.workers i ≡ Some (visible w.0) = slice_get-map visible c.workers.items i ∙ ap (option_map visible) w.1 in
       let here : slice_index_or (seats_seen vs.workers c.shared.seats.items) i no_seat ≡ seat_seen (visible w.0) chair.0 = seat_is vs.workers c.shared.seats.items i (visible w.0) chair.0 seen chair.1 in
       let seats : d.shared.seats.items ≡ slice_set c.shared.seats.items i (roused chair.0) = turns chair.0 chair.1 in
-      let seats_then : seats_seen vs.workers d.shared.seats.items ≡ slice_set (seats_seen vs.workers c.shared.seats.items) i (record (slice_index_or (seats_seen vs.workers c.shared.seats.items) i no_seat) { rest = rest.Awake }) =
-      ap (seats_seen vs.workers) seats ∙ chair_set vs.workers c.shared.seats.items i (visible w.0) (roused chair.0) seen ∙ ap (λ x. slice_set (seats_seen vs.workers c.shared.seats.items) i (record x { rest = rest.Awake })) (sym here) in
-      let common : common_of left spot p vs d.shared ≡ record (common_of left spot p vs c.shared) { seats = slice_set (seats_seen vs.workers c.shared.seats.items) i (record (slice_index_or (seats_seen vs.workers c.shared.seats.items) i no_seat) { rest = rest.Awake }) } =
+      let seats_then : seats_seen vs.workers d.shared.seats.items ≡ slice_set (seats_seen vs.workers c.shared.seats.items) i (record (slice_index_or (seats_seen vs.workers c.shared.seats.items) i no_seat) { rest = Rest.Awake }) =
+      ap (seats_seen vs.workers) seats ∙ chair_set vs.workers c.shared.seats.items i (visible w.0) (roused chair.0) seen ∙ ap (λ x. slice_set (seats_seen vs.workers c.shared.seats.items) i (record x { rest = Rest.Awake })) (sym here) in
+      let common : common_of left spot p vs d.shared ≡ record (common_of left spot p vs c.shared) { seats = slice_set (seats_seen vs.workers c.shared.seats.items) i (record (slice_index_or (seats_seen vs.workers c.shared.seats.items) i no_seat) { rest = Rest.Awake }) } =
       ap (λ s. common_of left spot p vs s) kept ∙ ap (λ xs. record (common_of left spot p vs c.shared) { seats = xs }) seats_then in
       let things = things_kept vs c.shared d.shared (ap (λ s. s.global) kept) (ap (λ s. s.idle) kept) (ap (λ s. s.barrier_open) kept) (ap (λ s. s.set) kept) (ap (λ s. s.requests) kept) (ap (λ s. s.sleepers) kept) (ap (λ s. s.opens) kept)
       (unchanged queue_at c.shared.seats.items d.shared.seats.items i chair.0 (roused chair.0) chair.1 seats refl) (unchanged word_at c.shared.seats.items d.shared.seats.items i chair.0 (roused chair.0) chair.1 seats refl)
-      (unchanged inbox_at c.shared.seats.items d.shared.seats.items i chair.0 (roused chair.0) chair.1 seats refl) (ap (polls_seen vs.workers) seats ∙ polls_roused vs.workers c.shared.seats.items i chair.0 chair.1) in
+      (unchanged inbox_at c.shared.seats.items d.shared.seats.items i chair.0 (roused chair.0) chair.1 seats refl) (ap (polls_seen vs.workers) seats ∙ polls_kept vs.workers c.shared.seats.items i chair.0 (roused chair.0) chair.1 refl) in
       grind arith
 
   -- of a worker another thing is visible
-  pub set_busy : (p : Plan) (c d : Core B) (i : ℕ) → Stands c → may_take c (action.SetBusy i) ≡ true → Sees i (λ seen. record seen { busy = true }) c d
-      → Takes left spot p c (action.SetBusy i) event.Set d
+  pub set_busy : (p : Plan) (c d : Core B) (i : ℕ) → Stands c → may_take c (Action.SetBusy i) ≡ true → Sees i (λ seen. record seen { busy = true }) c d
+      → Takes left spot p c (Action.SetBusy i) Event.Set d
   set_busy p c d i stands may sees =
       let vs = views c in
       let chair = found_by has_begun (slice_get c.shared.seats.items i) refl may in
@@ -192,9 +176,9 @@ module _ {B L : Type 0} (left : B → L) (spot : L → Option Said → Spot) whe
       let views_are : views d ≡ with_view vs i busy = views_with c d i sees.after sees.workers callers ∙ ap (with_view vs i) sees.seen in
       let seats : seats_seen (slice_set vs.workers i busy) c.shared.seats.items ≡ slice_set (seats_seen vs.workers c.shared.seats.items) i (record (slice_index_or (seats_seen vs.workers c.shared.seats.items) i no_seat) { busy = true }) =
       seats_viewed vs.workers c.shared.seats.items i busy chair.0 chair.1 ∙ ap (λ x. slice_set (seats_seen vs.workers c.shared.seats.items) i (record x { busy = true })) (sym here) in
-      let common : common_of left spot p (with_view vs i busy) c.shared ≡ common_by (common_of left spot p vs c.shared) (action.SetBusy i) event.Set Plain = ap (λ xs. record (common_of left spot p vs c.shared) { seats = xs }) seats in
+      let common : common_of left spot p (with_view vs i busy) c.shared ≡ common_by (common_of left spot p vs c.shared) (Action.SetBusy i) Event.Set Plain = ap (λ xs. record (common_of left spot p vs c.shared) { seats = xs }) seats in
       let things : things_with (with_view vs i busy) c.shared ≡ things_with vs c.shared = ap (λ xs. record (things_with vs c.shared) { wake_polls = xs }) (polls_busy vs.workers c.shared.seats.items i (visible sees.before) seen) in
-      let then_is : playing left spot p d ≡ record (playing left spot p c) { world = record (world left spot p c) { common = common_by (common_of left spot p vs c.shared) (action.SetBusy i) event.Set Plain } } =
+      let then_is : playing left spot p d ≡ record (playing left spot p c) { world = record (world left spot p c) { common = common_by (common_of left spot p vs c.shared) (Action.SetBusy i) Event.Set Plain } } =
       (playing_by _ _ _ _ _ _ _ _
       (world_by _ _ _ _ (unchanged own_of c.workers.items d.workers.items i sees.before sees.after sees.was sees.workers sees.own) (ap (common_of left spot p (views d)) shared ∙ ap (λ v. common_of left spot p v c.shared) views_are ∙ common))
       (unchanged desk_of c.workers.items d.workers.items i sees.before sees.after sees.was sees.workers sees.desk) (ap (λ cs. map desk_of_caller cs.items) callers)
@@ -217,23 +201,23 @@ module _ {B L : Type 0} (left : B → L) (spot : L → Option Said → Spot) whe
       (ap (λ cs. map desk_of_caller cs.items) rings.callers)
       (ap (λ v. things_with v d.shared) seen ∙ rings.things p vs suits ∙ ap (λ k. set_wake_poll k x.things (poll (wake_poll_of x.things k))) at)
 
-  pub poll_ended : (p : Plan) (c d : Core B) (i : ℕ) → c.shared.config ≡ p.config → Stands c → may_take c (action.EndPoll i) ≡ true → EndsPoll left spot i c d
-      → Takes left spot p c (action.EndPoll i) event.Set d
+  pub poll_ended : (p : Plan) (c d : Core B) (i : ℕ) → c.shared.config ≡ p.config → Stands c → may_take c (Action.EndPoll i) ≡ true → EndsPoll left spot i c d
+      → Takes left spot p c (Action.EndPoll i) Event.Set d
   poll_ended p c d i config stands may ends =
       let x = playing left spot p c in
       let same : slice_set x.desks i (desk_at p.config x i) ≡ x.desks =
       ap (slice_set x.desks i) (desk_there left spot p c i ends.before ends.was) ∙ set_found x.desks i (desk_of ends.before) (slice_get-map desk_of c.workers.items i ∙ ap (option_map desk_of) ends.was) in
       record {
         choice = Plain;
-        follows = (sym (enabled_as left spot p c (action.EndPoll i) stands.together.seats) ∙ may, (refl, tt));
+        follows = (sym (enabled_as left spot p c (Action.EndPoll i) stands.together.seats) ∙ may, (refl, tt));
         becomes = ap (λ (y : Playing). y.world) (rung i last_told (λ k. k) (λ s. s) p c d stands config ends);
         callers = λ h. ends.callers;
-        goes = played_as (action.EndPoll i) event.Set (playing left spot p d) _
+        goes = played_as (Action.EndPoll i) Event.Set (playing left spot p d) _
             (rung i last_told (λ k. k) (λ s. s) p c d stands config ends ∙ ap (λ xs. record x { desks = xs; things = set_wake_poll i x.things (last_told (wake_poll_of x.things i)) }) same);
       }
 
-  pub landed : (p : Plan) (c d : Core B) (r : ℕ) (n : OpResult) → c.shared.config ≡ p.config → Stands c → may_take c (action.Land r n) ≡ true → Lands left spot r n c d
-      → Takes left spot p c (action.Land r n) event.Land d
+  pub landed : (p : Plan) (c d : Core B) (r : ℕ) (n : OpResult) → c.shared.config ≡ p.config → Stands c → may_take c (Action.Land r n) ≡ true → Lands left spot r n c d
+      → Takes left spot p c (Action.Land r n) Event.Land d
   landed p c d r n config stands may lands =
       let x = playing left spot p c in
       let k = lands.it.shown.worker in
@@ -246,9 +230,9 @@ module _ {B L : Type 0} (left : B → L) (spot : L → Option Said → Spot) whe
       } in
       record {
         choice = Plain;
-        follows = (sym (enabled_as left spot p c (action.Land r n) stands.together.seats) ∙ may, (refl, tt));
+        follows = (sym (enabled_as left spot p c (Action.Land r n) stands.together.seats) ∙ may, (refl, tt));
         becomes = ap (λ (y : Playing). y.world) (rung k passed (λ desk. record desk { others = 0 }) (λ s. after_landing s r n) p c d stands config lands.rings);
         callers = λ h. lands.rings.callers;
-        goes = played_as (action.Land r n) event.Land (playing left spot p d) _
+        goes = played_as (Action.Land r n) Event.Land (playing left spot p d) _
             (rung k passed (λ desk. record desk { others = 0 }) (λ s. after_landing s r n) p c d stands config lands.rings ∙ ap after_it (ap (λ (z : Request). z.worker) (sym it)));
       }

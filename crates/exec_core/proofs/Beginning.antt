@@ -1,19 +1,7 @@
 -- The first state: what the ranges of a configuration give, and all that a worker rests on holds; its seats, roots and workers come
 -- one after another.
-use Rattle.std.{proofs.{Common.{◌≡◌, ℕ, zero, suc, ◌*◌, ◌^◌, ◌≤◌, true, refl, ap, ◌∙◌, arith, ◌<◌, List, [], ◌∷◌, length, map, replicate, Some, None, sym, subst, slice_get, ◌+◌, false, ◌++◌, inl, inr}, lemmas.{Bool.{and_parts, leb-true, false≢true, lt-ltb}, Option.slice_get_within, List.{length-append, length-replicate}}}, specs.Prelude.nat_lt}
-use Rattle.exec_base.specs.declared.limits.TheConstants.{LONGEST_TIMEOUT}
-use Rattle.exec_machine.specs.{declared.{config.Configuration.Configuration, state.Waiting.TheVariants.Nothing}, Ranges.{doubled_up_to, ticks_needed}}
-use Rattle.exec_ring.specs.declared.store.Store.{Store}
-use Rattle.exec_opens.specs.Opens.{fresh_open}
-use Rattle.exec_task.specs.{TaskSet.IsShardCount, declared.{runnable.Runnable.Runnable, body.Said.TheVariants.Start, task.Phase.TheVariants.Queued}, Phases.runnable_of}
-use Rattle.exec_moves.specs.Pop.{power_from, shard_count}
-use Rattle.exec_parts.{specs.{Roles.MayBegin, declared.parts.{record.Record.Record, role.Role.TheVariants.Pool, shared.Shared.Shared, task_slot.TaskSlot.TaskSlot, worker.Worker.Worker, seat.Seat.Seat as Chair}, Dedicated.Begins, Records.IsFreshSeat}, proofs.{LeafPowers.power_is, Facts.same_Some}}
-use Rattle.exec_invariants.{specs.{Gates.{AreLinedUp, IsLinedUp}, Sound.{AreHome, IsConfig, Sound}}, proofs.{SparedRecord.there_within, HoldSteps.get_front}}
-use Rattle.exec_polling.{specs.declared.caller.Caller.Caller, proofs.{Begun.{begun_sound, none_there, not_both}, GateGrown.found_last}}
-use Rattle.exec_steps.proofs.Together.{last_or_before}
-use Rattle.exec_core.specs.{Ranges.is_in_range, Firsts.{IsFirst, AllBegin, HasRoots, IsBare, IsRoot}}
-use Rattle.exec_moves.specs.declared.handing.CallPlace.TheVariants as call
-use Rattle.exec_base.specs.declared.one_shot.OneShotState.TheVariants as shot
+use Rattle.std.{proofs.{Common.{List, None, Some, [], ap, arith, false, inl, inr, length, map, refl, replicate, slice_get, subst, suc, sym, true, zero, ℕ, ◌*◌, ◌++◌, ◌+◌, ◌<◌, ◌^◌, ◌∙◌, ◌∷◌, ◌≡◌, ◌≤◌}, lemmas.{Bool.{and_parts, false≢true, leb-true, lt-ltb}, List.{length-append, length-replicate}, Option.slice_get_within}}, specs.Prelude.nat_lt}
+use Rattle.exec_core.{specs.{Words.{LONGEST_TIMEOUT, OneShotState, Configuration, Nothing, doubled_up_to, ticks_needed, Store, fresh_open, IsShardCount, Runnable, Start, Queued, runnable_of, power_from, shard_count, CallPlace, MayBegin, Record, Pool, Shared, TaskSlot, Worker, Chair, Begins, IsFreshSeat, AreLinedUp, IsLinedUp, AreHome, IsConfig, Sound, Caller}, Ranges.is_in_range, Firsts.{IsFirst, AllBegin, HasRoots, IsBare, IsRoot}}, proofs.Lifting.{power_is, same_Some, there_within, get_front, begun_sound, none_there, not_both, found_last, last_or_before}}
 
 -- A CONFIGURATION IN ITS RANGES
 
@@ -62,7 +50,7 @@ config_sound = grind arith
 
 -- a caller without a call
 abbrev pub free_caller : Caller
-free_caller = record { place = call.Nothing; hand = None }
+free_caller = record { place = CallPlace.Nothing; hand = None }
 
 -- GATES without a line
 
@@ -131,22 +119,20 @@ module _ {B : Type 0} (c : Configuration) (roots : List B) (s : Shared B) (rs : 
 one_more : {A C : Type 0} (xs : List A) (ys : List C) (x : A) (y : C) → length xs ≡ length ys → length (xs ++ x ∷ []) ≡ length (ys ++ y ∷ [])
 one_more xs ys x y same = length-append xs (x ∷ []) ∙ ap (λ n. n + 1) same ∙ sym (length-append ys (y ∷ []))
 
+-- What holds of each and its partner in the other list holds of the last of both, and so of all.
+each_more : {A C : Type 0} (xs : List A) (ys : List C) (x : A) (y : C) (P : ℕ → A → C → Type 0) → length xs ≡ length ys → ((i : ℕ) (a : A) → slice_get xs i ≡ Some a → (b : C) × (slice_get ys i ≡ Some b) × P i a b) → P (length xs) x y
+    → (i : ℕ) (a : A) → slice_get (xs ++ x ∷ []) i ≡ Some a → (b : C) × (slice_get (ys ++ y ∷ []) i ≡ Some b) × P i a b
+each_more xs ys x y P many each both i a there =
+    elim (last_or_before xs i x a there) [
+      | inl found ↦ let it = each i a found in (it.0, get_front ys (y ∷ []) i it.0 it.1, it.2)
+      | inr last ↦ (y, ap (slice_get (ys ++ y ∷ [])) (last.0 ∙ many) ∙ found_last ys y, subst (λ k. P k a y) (sym last.0) (subst (λ b. P (length xs) b y) last.1 both))
+    ]
+
 -- WORKERS
 
 pub begin_more : (c : Configuration) (rs : List Runnable) (ws : List Worker) (r : Runnable) (w : Worker) → AllBegin c rs ws → Begins c (Pool (length ws)) (length ws) (length ws) r 0 w → AllBegin c (rs ++ r ∷ []) (ws ++ w ∷ [])
 begin_more c rs ws r w all begins =
-    record {
-      many = one_more ws rs w r all.many;
-      each = λ i v there.
-          elim (last_or_before ws i w v there) [
-            | inl found ↦ let it = all.each i v found in (it.0, get_front rs (r ∷ []) i it.0 it.1, it.2)
-            | inr last ↦ (
-              r,
-              ap (slice_get (rs ++ r ∷ [])) (last.0 ∙ all.many) ∙ found_last rs r,
-              subst (λ k. Begins c (Pool k) k k r 0 v) (sym last.0) (subst (Begins c (Pool (length ws)) (length ws) (length ws) r 0) last.1 begins),
-            )
-          ];
-    }
+    record { many = one_more ws rs w r all.many; each = each_more ws rs w r (λ i v s. Begins c (Pool i) i i s 0 v) all.many all.each begins }
 
 module _ {B : Type 0} where
   -- SEATS AND ROOTS
@@ -163,28 +149,12 @@ module _ {B : Type 0} where
               | inl found ↦ has.fresh i x found
               | inr last ↦ subst (IsFreshSeat true) last.1 fresh
             ];
-        root = λ i x there.
-            elim (last_or_before tasks i slot x there) [
-              | inl found ↦ let it = has.root i x found in (it.0, get_front roots (body ∷ []) i it.0 it.1, it.2)
-              | inr last ↦ (
-                body,
-                ap (slice_get (roots ++ body ∷ [])) (last.0 ∙ has.tasks_many) ∙ found_last roots body,
-                subst (λ k. IsRoot k body x) (sym last.0) (subst (IsRoot (length tasks) body) last.1 root),
-              )
-            ];
-        queued = λ i x there.
-            elim (last_or_before rs i r x there) [
-              | inl found ↦ let it = has.queued i x found in (it.0, get_front tasks (slot ∷ []) i it.0 it.1, it.2)
-              | inr last ↦ (
-                slot,
-                ap (slice_get (tasks ++ slot ∷ [])) (last.0 ∙ has.runnables_many ∙ sym has.tasks_many) ∙ found_last tasks slot,
-                sym last.1 ∙ queued,
-              )
-            ];
+        root = each_more tasks roots slot body (λ i z b. IsRoot i b z) has.tasks_many has.root root;
+        queued = each_more rs tasks r slot (λ i q z. q ≡ runnable_of z.cell) (has.runnables_many ∙ sym has.tasks_many) has.queued queued;
       }
 
   pub root_is : (i n owner : ℕ) (body : B) (slot : TaskSlot B) → n ≡ i → owner ≡ 1 → slot.cell ≡ record { number = record { 0 = n }; owner = owner; phase = Queued body; cancelled = false }
-      → slot ≡ record { cell = slot.cell; body = None; told = Some Start; held = slot.held; waiting = Nothing; output = shot.Open; fresh = false; cleared = false; home = Some n; poller = 0 } → slot.held.items ≡ [] → IsRoot i body slot
+      → slot ≡ record { cell = slot.cell; body = None; told = Some Start; held = slot.held; waiting = Nothing; output = OneShotState.Open; fresh = false; cleared = false; home = Some n; poller = 0 } → slot.held.items ≡ [] → IsRoot i body slot
   root_is = grind arith
 
   -- WHAT IS SHARED beside them

@@ -1,20 +1,8 @@
 -- What is known of the parts of an executor: of a number, by what stands there, or by none; of what lives in a slot of a worker; of
--- the worker and the chair that sit there; and of the gates, by what holds of all parties together: who stands there, as it is shown.
-pub use Rattle.exec_words.specs.Queue.{Queue}
-pub use Rattle.exec_steps.specs.Together.{all_have}
-use Rattle.std.proofs.{Common.{◌≡◌, ℕ, ◌<◌, ◌≤◌, List, [], get_or, length, map, slice_get, Option, Some, option_map, ap, ◌∙◌, inl, inr, arith, zero, suc, ◌+◌, Bool, true, false, ◌∷◌, if◌then◌else◌, sym, refl, ◌==◌, ◌&&◌, not, IsSome, slice_index_or, None, subst}, lemmas.{Bool.{cases_lt, false≢true, eq-eqb, false_from_ne_true, true≢false, Decides.nat_tests}, List.{get_or_past, length-map}, Option.{get_or_from_slice_get, slice_get-map, slice_get_cases, slice_get_within}}}
-use Rattle.exec_base.specs.{Slab.{is_live, value_in, value_at}, declared.slab.Slot.{Slot, TheVariants.Vacant}}
-use Rattle.exec_outcomes.specs.Accounts.{is_durable}
-use Rattle.exec_machine.specs.{declared.{config.Configuration.Configuration, state.{MailMessage.MailMessage, Request.Request, Sleeper.Sleeper}}, Progress.Plan, World.{Own, Seat, no_own, no_seat, own_of as own_at, seat_of, Common, no_request, request_of, Open, no_open, open_of, sleeper_of}, Tests.{is_gated, is_resolved}}
-use Rattle.exec_waiters.specs.{States.waiter_of, declared.waiter.Entry.Entry}
-use Rattle.exec_opens.specs.{Opens.OpenState, declared.opens.WaiterKey.WaiterKey}
-use Rattle.exec_moves.specs.{Plays.{Playing, desk_of, first_desk}, State.{Desk, inbox_of, no_queue, queue_of, gate_of}, Slots.{is_some_slot, slot_of, is_in_slots, numbers_in}, declared.place.{InPoll.InPoll, Place.Place}, Told.has_number}
-use Rattle.exec_rest.specs.Rested.{place_at}
-use Rattle.exec_settled.specs.Given.{gives_up, in_line, passes_at}
-use Rattle.exec_parts.{specs.{declared.parts.{seat.Seat.Seat as Chair, worker.Worker.Worker, record.Record.Record, mail.Reply.Reply, sleeping.SleeperRecord.SleeperRecord}, Spots.Spot, View.{desk_of as desk_seen, inbox_at, own_of, queue_at, seat_seen, seats_seen, visible, slots_from, gate_seen, has_given_up, line_of, number_of_key, open_seen, driver_of}, Records.number_in}, proofs.Facts.and_from}
-use Rattle.exec_invariants.{specs.{Sound.Sound, Gates.{AreLinedUp, key_for, line_at, JoinsGate, PassesPermit}, Places.{Drops, drops_at, joins_at, passes_at as passes_there}}, proofs.{Seats.seat_there, SparedRecord.there_within, GateLines.key_number, Seen.{request_at, sleeper_at}, Lined.unmapped, Gated.durable_of_file, FiringRemoved.slot_none, FiringSeen.bed_named}}
-use Rattle.exec_steps.proofs.Together.{others_of}
-use Rattle.exec_core.{specs.{Lift.{Stands, playing}, declared.executor.Core.Core}, proofs.Lifting.{seats_length, Said}}
+-- the worker and the chair that sit there, and of its root; and of who stands at a gate, as it is shown.
+pub use Rattle.exec_core.specs.Words.{Queue, all_have}
+use Rattle.std.proofs.{Common.{Bool, IsSome, List, None, Option, Some, [], ap, arith, false, get_or, if◌then◌else◌, inl, inr, length, map, not, option_map, refl, slice_get, slice_index_or, suc, sym, true, zero, ℕ, ⊎_elim, ◌&&◌, ◌+◌, ◌<◌, ◌∙◌, ◌∷◌, ◌≡◌, ◌≤◌}, lemmas.{Bool.{Decides.nat_tests, cases_lt, eq-eqb, false_from_ne_true, false≢true, not_from_true, or_from, true_from_ne_false, true≢false}, List.{get_or_past, length-map}, Option.{get_or_from_slice_get, slice_get-map, slice_get_cases, slice_get_within}}}
+use Rattle.exec_core.{specs.{Words.{is_live, value_in, Slot, Configuration, MailMessage, Plan, Own, Seat, no_own, no_seat, own_at, seat_of, Common, no_request, request_of, Open, no_open, open_of, waiter_of, Entry, OpenState, WaiterKey, Playing, desk_at as desk_of, first_desk, Desk, inbox_of, no_queue, queue_of, gate_of, is_some_slot, slot_of, numbers_in, Place, has_number, place_at, gives_up, in_line, passes_at, Chair, Worker, Record, Reply, Spot, desk_of as desk_seen, inbox_at, own_of, queue_at, seat_seen, seats_seen, visible, slots_from, gate_seen, has_given_up, line_of, number_of_key, open_seen, Sound, AreLinedUp, key_for, line_at, drops_at, passes_there, is_polled, TaskSlot, is_complete, HaveLeft, IsBefore, in_set}, Lift.{Stands, playing}, declared.executor.Core.Core}, proofs.Lifting.{seat_there, there_within, key_number, request_at, unmapped, others_of, seats_length, Said}}
 
 pub none_plus : (n : ℕ) → 0 + n ≡ n
 none_plus n = omega arith
@@ -69,12 +57,39 @@ who c stands i within =
     let its = stands.together.sound i w.0 w.1 in
     (w.0, chair.0, record { works = w.1; there = chair.1; index = its.0; mine = ap (slice_get c.shared.seats.items) its.0 ∙ chair.1; sound = its.1 })
 
+module _ {B : Type 0} (c : Core B) where
+  -- the task whose home is worker j is its root
+  pub root_here : (t j : ℕ) (slot : TaskSlot B) → slice_get c.shared.tasks.items t ≡ Some slot → slot.home ≡ Some j
+      → (w : Worker) (chair : Chair) → Sits c j w chair → slice_get c.shared.tasks.items w.root ≡ Some slot
+  root_here t j slot there home w chair it =
+      let its = it.sound.runnable in
+      let same : t ≡ w.root = it.sound.homes.once t w.root j slot its.root there its.there home (its.home ∙ ap (λ n. Some n) it.index) in
+      ap (slice_get c.shared.tasks.items) (sym same) ∙ there
+
+  -- Once a worker of the pool takes no mail any more all have left it: nobody polls an ordinary task, nor clears one, and none is
+  -- in the set. So all are over.
+  pub all_over : Stands c → (i : ℕ) (w : Worker) (chair : Chair) → Sits c i w chair → chair.pool ≡ true → chair.mailbox.inbox.closed ≡ true
+      → (t : ℕ) (slot : TaskSlot B) → slice_get c.shared.tasks.items t ≡ Some slot → slot.home ≡ None → is_complete slot.cell.phase ≡ true
+  all_over stands i w chair it pool closed t slot there home =
+      let whole = stands.together.whole in
+      let x = all_have c.workers.items c.callers.items in
+      let gone : HaveLeft c.shared.seats.items = whole.pool.shut i chair it.there pool closed in
+      let nobody : (j : ℕ) → IsBefore j c.shared.seats.items → ⊥ = λ j b. true≢false (sym (gone j b.chair b.there) ∙ b.going) in
+      let passed : chair.left ≡ true = true_from_ne_false chair.left (λ stays. false≢true (sym (or_from chair.left (not chair.pool) stays (not_from_true chair.pool pool)) ∙ gone i chair it.there)) in
+      let set : in_set t c.shared.set ≡ 0 = (whole.pool.drained i chair it.there passed).1 t in
+      let clears : x.clears t ≤ 0 = ⊎_elim (λ (some : 0 < x.clears t). (let who = whole.pool.who_clears t some in absurd (nobody who.0 who.1))) (λ (none : x.clears t ≤ 0). none) (cases_lt 0 (x.clears t)) in
+      let polled : is_polled slot.cell.phase ≡ false = false_from_ne_true (is_polled slot.cell.phase) (λ h. nobody slot.poller (whole.pool.who_polls t slot there home h).0) in
+      true_from_ne_false (is_complete slot.cell.phase)
+      (λ still.
+      let once : x.clears t + in_set t c.shared.set ≡ 1 = (whole.pool.live t slot there home).live ((it.sound.resting t slot there home polled).uncleared still).1 still in
+      omega (arith, once, clears, set))
+
 -- both say of a place which permit is passed on there
-passes_same : (p : Place) → passes_there p ≡ passes_at p
+pub passes_same : (p : Place) → passes_there p ≡ passes_at p
 passes_same = grind arith
 
 -- who has the permit is the first in the line
-first_holds : (o : OpenState) (key : WaiterKey) → o.holder ≡ Some key → slice_get (line_at o) 0 ≡ Some key
+pub first_holds : (o : OpenState) (key : WaiterKey) → o.holder ≡ Some key → slice_get (line_at o) 0 ≡ Some key
 first_holds = grind arith
 
 module _ (opens : List OpenState) (rs : List Record) (lined : AreLinedUp opens rs) where
@@ -111,16 +126,16 @@ module _ (of : Common) (rs : List Record) where
   line_seen (n ∷ later) = ap (λ b. if b then later else n ∷ later) (given_same n)
 
 -- what has a slot is among the numbers of all
-numbered : (n k : ℕ) (slots : List (Option ℕ)) → is_some_slot (slot_of n k slots) ≡ true → has_number n (numbers_in slots) ≡ true
+pub numbered : (n k : ℕ) (slots : List (Option ℕ)) → is_some_slot (slot_of n k slots) ≡ true → has_number n (numbers_in slots) ≡ true
 numbered n k [] h = absurd (false≢true h)
 numbered n k (None ∷ later) h = numbered n (suc k) later h
 numbered n k (Some m ∷ later) h = grind (arith, nat_tests, numbered n (suc k) later)
 
 -- one that isn't over is in the slab
-still_there : (o : Option (Entry Reply Reply)) (over : Bool) → (waiter_of o ≡ None → over ≡ true) → over ≡ false → IsSome o
+pub still_there : (o : Option (Entry Reply Reply)) (over : Bool) → (waiter_of o ≡ None → over ≡ true) → over ≡ false → IsSome o
 still_there = grind arith
 
-unfired : (mine fired removed : Bool) → (mine && not fired && not removed) ≡ true → fired ≡ false
+pub unfired : (mine fired removed : Bool) → (mine && not fired && not removed) ≡ true → fired ≡ false
 unfired = grind arith
 
 module _ {B L : Type 0} (left : B → L) (spot : L → Option Said → Spot) (p : Plan) (c : Core B) (stands : Stands c) (k : Configuration) where
@@ -175,11 +190,11 @@ module _ {B L : Type 0} (left : B → L) (spot : L → Option Said → Spot) (p 
   abbrev rs : List Record
   rs = c.shared.requests.items
 
-  lined : AreLinedUp opens rs
+  pub lined : AreLinedUp opens rs
   lined = (let first = there_within c.workers.items 0 stands.some in (stands.together.sound 0 first.0 first.1).1.gates)
 
   -- What is shown of a file is that of an open, or of none.
-  by_open : (file : ℕ) (P : List ℕ → Open → Type 0) → P [] no_open → ((o : OpenState) → slice_get opens file ≡ Some o → P (gate_seen rs o) (open_seen rs o))
+  pub by_open : (file : ℕ) (P : List ℕ → Open → Type 0) → P [] no_open → ((o : OpenState) → slice_get opens file ≡ Some o → P (gate_seen rs o) (open_seen rs o))
       → P (gate_of shown.things file) (open_of s file)
   by_open file P none some =
       elim ((slice_get_cases opens file).1) [
@@ -188,114 +203,12 @@ module _ {B L : Type 0} (left : B → L) (spot : L → Option Said → Spot) (p 
       ]
 
   -- and what is shown of the place of a worker is that of one, or where it begins its turn
-  by_place : (i : ℕ) (P : Place → Type 0) → P Place.BeginTurn → ((w : Worker) → slice_get c.workers.items i ≡ Some w → P w.place) → P (place_at k shown i)
+  pub by_place : (i : ℕ) (P : Place → Type 0) → P Place.BeginTurn → ((w : Worker) → slice_get c.workers.items i ≡ Some w → P w.place) → P (place_at k shown i)
   by_place i P = by_one desk_seen c.workers.items i (first_desk k i) (λ (d : Desk). P d.place)
 
   -- what a worker passes on or has join is what its place says
-  drops : (i : ℕ) (w : Worker) → slice_get c.workers.items i ≡ Some w → (all_have c.workers.items c.callers.items).drops_by i ≡ drops_at w.place
+  pub drops : (i : ℕ) (w : Worker) → slice_get c.workers.items i ≡ Some w → (all_have c.workers.items c.callers.items).drops_by i ≡ drops_at w.place
   drops i w there =
       let its = (stands.together.sound i w there).0 in
       let rest = others_of c.workers.items c.callers.items i w there (λ j x at other same. other (sym (stands.together.sound j x at).0 ∙ same ∙ its)) in
       grind arith
-
-  pub as_many_gates : length shown.things.gates ≡ length s.opens
-  as_many_gates = length-map opens (gate_seen rs) ∙ sym (length-map opens (open_seen rs))
-
-  pub at_gate : (file n r : ℕ) → slice_get (gate_of shown.things file) n ≡ Some r → (r < length s.requests) × (is_durable (request_of s r).operation.kind ≡ true) × ((request_of s r).operation.target ≡ file)
-  at_gate file n r =
-      by_open file (λ g o. slice_get g n ≡ Some r → (r < length s.requests) × (is_durable (request_of s r).operation.kind ≡ true) × ((request_of s r).operation.target ≡ file))
-      (λ there. absurd (cc))
-      (λ o open_there there.
-      let it = stood opens rs lined file o open_there n r there in
-      let is = (lined.lines file o open_there).durable n (key_for it.r) r it.r it.placed it.there refl in
-      let same = request_at rs r it.r it.there in
-      (mapped_within (λ (x : Record). x.shown) rs r it.r it.there, ap (λ (x : Request). is_durable x.operation.kind) same ∙ is.0, ap (λ (x : Request). x.operation.target) same ∙ is.1))
-
-  pub behind : (file n r : ℕ) → slice_get (gate_of shown.things file) (suc n) ≡ Some r → is_gated (request_of s r).phase ≡ true
-  behind file n r =
-      by_open file (λ g o. slice_get g (suc n) ≡ Some r → is_gated (request_of s r).phase ≡ true)
-      (λ there. absurd (cc))
-      (λ o open_there there.
-      let it = stood opens rs lined file o open_there (suc n) r there in
-      ap (λ (x : Request). is_gated x.phase) (request_at rs r it.r it.there) ∙ (lined.lines file o open_there).waits (suc n) (key_for it.r) r it.r (omega arith) it.placed it.there refl)
-
-  pub joins : (i t r : ℕ) → place_at k shown i ≡ Place.Poll t (InPoll.JoinGate r) → ((request_of s r).worker ≡ i) × (is_gated (request_of s r).phase ≡ true)
-  joins i t r =
-      by_place i (λ q. q ≡ Place.Poll t (InPoll.JoinGate r) → ((request_of s r).worker ≡ i) × (is_gated (request_of s r).phase ≡ true))
-      (λ place. absurd (cc))
-      (λ w there place.
-      let it : JoinsGate i r opens rs = stands.together.whole.gates.joins i r (ap (λ (d : Drops). d.joins) (drops i w there) ∙ ap joins_at place) in
-      let same = request_at rs r it.r it.there in
-      (ap (λ (x : Request). x.worker) same ∙ it.mine, ap (λ (x : Request). is_gated x.phase) same ∙ it.gated))
-
-  pub holder : (file : ℕ) → (open_of s file).holder ≡ slice_get (in_line s (gate_of shown.things file)) 0
-  holder file =
-      by_open file (λ g o. o.holder ≡ slice_get (in_line s g) 0) refl
-      (λ o open_there. ap (λ (ns : List ℕ). slice_get ns 0) (line_seen s rs (gate_seen rs o)))
-
-  pub passes : (i file : ℕ) → passes_at (place_at k shown i) ≡ Some file → (r : ℕ) × (slice_get (gate_of shown.things file) 0 ≡ Some r) × ((request_of s r).worker ≡ i) × (gives_up (request_of s r) ≡ true)
-  passes i file =
-      by_place i (λ q. passes_at q ≡ Some file → (r : ℕ) × (slice_get (gate_of shown.things file) 0 ≡ Some r) × ((request_of s r).worker ≡ i) × (gives_up (request_of s r) ≡ true))
-      (λ place. absurd (cc))
-      (λ w there place.
-      let it : PassesPermit i file opens rs = stands.together.whole.gates.passes i file (ap (λ (d : Drops). d.passes) (drops i w there) ∙ passes_same w.place ∙ place) in
-      let first : slice_get (line_at it.o) 0 ≡ Some (key_for it.r) = first_holds it.o (key_for it.r) it.holds in
-      let number : slice_get (gate_seen rs it.o) 0 ≡ Some it.k =
-      slice_get-map (number_of_key 0 rs) (line_at it.o) 0 ∙ ap (option_map (number_of_key 0 rs)) first ∙ ap (λ n. Some n) (number_there opens rs lined it.k it.r it.there) in
-      let same = request_at rs it.k it.r it.there in
-      let is = (lined.lines file it.o it.open_there).durable 0 (key_for it.r) it.k it.r first it.there refl in (
-        it.k,
-        ap (λ g. slice_get g 0) (mapped (gate_seen rs) opens file it.o [] it.open_there) ∙ number,
-        ap (λ (x : Request). x.worker) same ∙ it.mine,
-        ap gives_up same ∙ and_from (is_resolved it.r.shown.phase) (is_durable it.r.shown.operation.kind) it.over is.0,
-      ))
-
-  pub gated : (r : ℕ) → is_gated (request_of s r).phase ≡ true → (is_durable (request_of s r).operation.kind ≡ true) × ((request_of s r).operation.target < length s.opens)
-  gated r =
-      by_one (λ (x : Record). x.shown) rs r no_request
-      (λ (it : Request). is_gated it.phase ≡ true → (is_durable it.operation.kind ≡ true) × (it.operation.target < length s.opens)) (λ waits. absurd (false≢true waits))
-      (λ it there waits.
-      let durable = lined.durable r it there waits in
-      let within = lined.there r it there (durable_of_file it.shown.operation.kind durable) in
-      let many = length-map opens (open_seen rs) in
-      (durable, omega (arith, within, many)))
-
-  pub slots : (r : ℕ) → is_resolved (request_of s r).phase ≡ false → has_number r (numbers_in (desk_of k shown (request_of s r).worker).requests.held) ≡ true
-  slots r =
-      by_one (λ (x : Record). x.shown) c.shared.requests.items r no_request
-      (λ (it : Request). is_resolved it.phase ≡ false → has_number r (numbers_in (desk_of k shown it.worker).requests.held) ≡ true) (λ going. absurd (true≢false going))
-      (λ x there going.
-      let i = x.shown.worker in
-      let sits = there_within c.workers.items i (stands.owned r x there) in
-      let w : Worker = sits.0 in
-      let its = stands.together.sound i w sits.1 in
-      let mine : i ≡ w.index = sym its.0 in
-      let requests = (driver_of w).requests in
-      let numbers = w.names.requests.items in
-      let live = still_there (value_at requests x.id.0) (is_resolved x.shown.phase) (its.1.named.over r x there mine) going in
-      let named : number_in numbers x.id.0 ≡ r = (its.1.due.timed r x there mine).named going in
-      subst (λ (d : Desk). has_number r (numbers_in d.requests.held) ≡ true) (sym (mapped desk_seen c.workers.items i w (first_desk k i) sits.1))
-      (numbered r 0 (slots_from 0 numbers requests.slots)
-      (found_in_slots r 0 numbers requests.slots x.id.0.index (Vacant requests.first) refl (some_lives (get_or requests.slots x.id.0.index (Vacant requests.first)) x.id.0.generation live)
-      (ap (λ q. slice_index_or numbers q 0) (none_plus x.id.0.index) ∙ named))))
-
-  pub beds : (i z : ℕ) → is_in_slots z (desk_of k shown i).timers ≡ true → (sleeper_of s z).fired ≡ false
-  beds i z =
-      by_one desk_seen c.workers.items i (first_desk k i) (λ (d : Desk). is_in_slots z d.timers ≡ true → (sleeper_of s z).fired ≡ false) (λ there. absurd (false≢true there))
-      (λ w sits there.
-      let its = (stands.together.sound i w sits).1 in
-      let numbers = w.names.timers.items in
-      let beds = w.home.timers in
-      let zs = c.shared.sleepers.items in
-      false_from_ne_true (sleeper_of s z).fired
-      (λ fired.
-      let none : slot_of z 0 (slots_from 0 numbers beds.slots) ≡ None =
-      slot_none z 0 numbers beds.slots
-      (λ j y at_j alive same.
-      let it = bed_named w.index w.names (driver_of w) beds c.shared.requests.items zs its.named j y at_j alive in
-      let x : SleeperRecord = it.4 in
-      let as_it_is = its.due.asleep.alike it.0 it.1 x it.2 (ap (λ q. slice_get zs (slice_index_or numbers q 0)) it.3 ∙ it.5) in
-      let number : slice_index_or numbers j 0 ≡ z = ap (λ q. slice_index_or numbers q 0) (let e : j ≡ 0 + j = omega arith in e) ∙ same in
-      let here : slice_get zs z ≡ Some x = ap (slice_get zs) (sym number) ∙ it.5 in
-      true≢false (sym fired ∙ ap (λ (v : Sleeper). v.fired) (sleeper_at zs z x here) ∙ unfired (x.shown.worker == w.index) x.shown.fired x.shown.removed as_it_is.asleep)) in
-      false≢true (sym (ap is_some_slot none) ∙ there)))

@@ -2,105 +2,77 @@
 -- sleepers, and of the task whose poll begins. There is a search count for each worker that holds one, and one more for whoever has
 -- claimed some of its run queue: that is another worker, in a steal, and it searches. And the ends that a worker has to send elsewhere
 -- are no more than there are requests, or sleepers: each is of one of its own, and each of these has one at most.
-use Rattle.std.{proofs.{Common.{◌≡◌, ◌≢◌, ℕ, zero, suc, ◌+◌, ◌<◌, ◌≤◌, ◌==◌, Bool, true, not, List, [], ◌∷◌, slice_get, Option, Some, refl, sym, ap, ◌∙◌, arith, inl, inr, Contains, count_by, length, subst, false, nat_lt, ◌&&◌, slice_index_or, option_to_list, get_or, None, if◌then◌else◌}, lemmas.{Bool.{cases_Bool, eq-eqb, eqb-true, not-true, false_from_ne_true, false≢true, true≢false, cases_eq, lt-ltb, or_parts}, List.length-map, Option.slice_get_within, Nat.mod_below}}, specs.List.list_any}
+use Rattle.std.{proofs.{Common.{◌≡◌, ℕ, zero, suc, ◌+◌, ◌<◌, ◌≤◌, ◌==◌, Bool, true, not, List, [], ◌∷◌, ◌++◌, slice_get, Option, Some, refl, sym, ap, ◌∙◌, arith, inl, inr, Contains, count_by, sum_by, cond, length, subst, false, nat_lt, slice_index_or, option_to_list, get_or, None, if◌then◌else◌}, lemmas.{Bool.{eq-eqb, eqb-true, not-true, false_from_ne_true, false≢true, true≢false, cases_eq, lt-ltb, or_parts}, List.{length-map, Sums.sum_by-cons}, Option.slice_get_within, Nat.mod_below}}, specs.List.{list_any, range_with_len}}
 use Rattle.exec_base.specs.{Slab.slot_at, declared.slab.Slot.TheVariants.Vacant}
 use Rattle.exec_time.specs.declared.notes.ForwardedResult.{ForwardedResult}
 use Rattle.exec_machine.specs.{declared.{config.Configuration.Configuration, state.{Sleeper.Sleeper, WorkerPhase.WorkerPhase}}, Progress.{Plan, is_anyone_closing}, Tests.{is_open, is_asleep, has_ended, is_closing, is_ready}, World.{seat_of, no_sleeper, sleeper_of, Seat, Task, no_seat, no_task, task_of}}
-use Rattle.exec_words.specs.{Queue.{Queue, head_of, room_of, tail_of}, Head.room_at}
+use Rattle.exec_words.specs.{Queue.{Queue, tail_of}}
 use Rattle.exec_waiters.specs.declared.deferred.Answer.{Answer}
 use Rattle.exec_task.specs.declared.{body.Said.Said, runnable.Runnable.Runnable, task.Phase.Phase}
-use Rattle.exec_moves.specs.{declared.{place.{Place.Place, InPoll.InPoll}, handing.Heard.Heard, idling.InScan.InScan}, Counts.one_if as one_at, Plays.{Playing, desk_of as desk_at, first_desk}, State.{Desk, queue_of, no_queue}, Seen.serves_at, Search.from_of, Slots.is_in_slots}
+use Rattle.exec_moves.specs.{declared.{place.{InClosing.InClosing, Place.Place, InPoll.InPoll}, idling.InScan.InScan}, Plays.{Playing, desk_of as desk_at, first_desk}, State.{Desk, queue_of, no_queue}, Seen.serves_at, Search.from_of, Slots.is_in_slots}
 use Rattle.exec_credit.proofs.Rings.{some_ring}
 use Rattle.exec_rest.specs.{Rested.place_at, AtRest.IsShut}
 use Rattle.exec_progress.specs.{Going.{is_of_closing, KnowsAside, KnowsTail, is_seeking}, Granted.{KnowsRoom, IsGranted}, Paced.HaveCounts}
-use Rattle.exec_parts.{specs.{declared.parts.{seat.Seat.Seat as Chair, worker.Worker.Worker, mail.Reply.Reply, record.Record.Record, sleeping.SleeperRecord.SleeperRecord, task_slot.TaskSlot.TaskSlot}, Spots.Spot, View.{desk_of, completions_in, number_heard, results_in, queue_at, queue_seen, phase_seen, task_seen}, Phased.{closes_at, has_shut}}, proofs.Facts.same_Some}
-use Rattle.exec_invariants.{specs.{Places.{claims_at, is_number, one_if}, Sound.{Aims, HasQueue, IsHeld, IsRunnable, SoundAt, one_of, root_in_hand}, Rooted.{ends_elsewhere, goes_elsewhere, is_of_request, is_of_timer}, Drained.IsBefore, Whole.{HasOne, IsGenuine, may_let_go, stock}}, proofs.{PoolKept.number_is, Counting.at_most, ServedEnds.{count_both, count_one}, SparedRecord.{there_within, mine_asleep}, Slots.before_in_poll}}
-use Rattle.exec_polling.{proofs.MadePlaces.{by_zero, counted_there}, specs.declared.caller.Caller.Caller}
-use Rattle.exec_steps.specs.Together.{all_have, callers_have}
+use Rattle.exec_parts.{specs.{declared.parts.{seat.Seat.Seat as Chair, worker.Worker.Worker, mail.Reply.Reply, record.Record.Record, sleeping.SleeperRecord.SleeperRecord, task_slot.TaskSlot.TaskSlot}, Spots.Spot, View.{desk_of, number_heard, queue_at, queue_seen, phase_seen, task_seen}, Phased.{closes_at, closing_in, has_shut}}, proofs.Facts.{not_same, same_Some}}
+use Rattle.exec_invariants.{specs.{Places.{claims_at, is_number, one_if}, Sound.{Aims, HasQueue, IsRunnable, SoundAt, one_of, root_in_hand}, Rooted.{ends_elsewhere, goes_elsewhere, is_of_request, is_of_timer}, Drained.IsBefore, Whole.{HasOne, IsGenuine, may_let_go, runnables_in, stock}}, proofs.{Counting.{at_most, sum_few, sum_one}, ServedEnds.{count_both, count_one}, SparedRecord.{there_within, mine_asleep}, Slots.before_in_poll}}
+use Rattle.exec_polling.{proofs.MadePlaces.{by_zero, counted_there, weigh}, specs.declared.caller.Caller.Caller}
+use Rattle.exec_steps.{specs.Together.{all_have, callers_have}, proofs.Together.has_whole}
 use Rattle.exec_core.{specs.{declared.executor.Core.Core, Lift.{Stands, playing, Shows}}, proofs.GivenParts.{by_worker, mapped, by_one, as_many_seats, Sits, found_in_slots, none_plus, some_lives, seat_is, who}}
 
--- who has claimed the run queue of this number is another worker
-claims_other : (q : Place) (c : Configuration) (i n : ℕ) (seats : List Chair) → Aims q c i seats → is_number (claims_at q) n ≡ true → n ≢ i
-claims_other = grind arith
+-- who has claimed the run queue of a worker is another
+claims_other : (q : Place) (c : Configuration) (i n : ℕ) (seats : List Chair) → Aims q c i seats → i ≡ n → is_number (claims_at q) n ≡ false
+claims_other = grind (arith, not_same)
 
-same_one : (b : Bool) → one_at b ≡ one_if b
-same_one = grind arith
+-- who has claimed one searches, where who seeks holds a search count
+claimer_searches : (q : Place) (n : ℕ) (b : Bool) → (is_seeking q ≡ true → b ≡ true) → one_if (is_number (claims_at q) n) ≤ one_if b
+claimer_searches = grind arith
 
--- WHAT ALL HAVE
+-- WHAT ALL HAVE: callers claim no run queue; so there are as many search counts as claims, and one more of a worker that claims none
 
--- callers claim no run queue
 none_claimed : (cs : List Caller) (n : ℕ) → (callers_have cs).claims n ≡ 0
 none_claimed [] n = refl
 none_claimed (c ∷ cs) n = none_claimed cs n
 
--- who has claimed it
-pub record HasClaimed (ws : List Worker) (n : ℕ) : Type 0 where
-  pub at : ℕ
-  pub who : Worker
-  pub there : slice_get ws at ≡ Some who
-  pub claims : is_number (claims_at who.place) n ≡ true
+module _ (cs : List Caller) (n : ℕ) where
+  abbrev AllSearch : List Worker → Type 0
+  AllSearch ws = (j : ℕ) (v : Worker) → slice_get ws j ≡ Some v → one_if (is_number (claims_at v.place) n) ≤ one_if v.searching
 
-who_claims : (ws : List Worker) (cs : List Caller) (n : ℕ) → 0 < (all_have ws cs).claims n → HasClaimed ws n
-who_claims [] cs n some = absurd (let none = none_claimed cs n in omega (arith, some, none))
-who_claims (w ∷ ws) cs n some =
-    elim (cases_Bool (is_number (claims_at w.place) n)) [
-      | inl it ↦ record { at = 0; who = w; there = refl; claims = it }
-      | inr other ↦
-          let rest = who_claims ws cs n (let none = ap one_if other in omega (arith, some, none)) in
-          record { at = suc rest.at; who = rest.who; there = rest.there; claims = rest.claims }
-    ]
+  all_counted : (ws : List Worker) → AllSearch ws → (all_have ws cs).claims n ≤ (all_have ws cs).counts
+  all_counted [] each = omega (arith, none_claimed cs n)
+  all_counted (w ∷ ws) each = omega (arith, all_counted ws (λ j v there. each (suc j) v there), each 0 w refl)
 
--- the counts of one, and of two
-count_in : (ws : List Worker) (cs : List Caller) (i : ℕ) (w : Worker) → slice_get ws i ≡ Some w → one_if w.searching ≤ (all_have ws cs).counts
-count_in [] cs i w there = absurd (cc)
-count_in (x ∷ ws) cs zero w there = let same = ap (λ (v : Worker). one_if v.searching) (same_Some x w there) in omega (arith, same)
-count_in (x ∷ ws) cs (suc i) w there = let rest = count_in ws cs i w there in omega (arith, rest)
+  one_more : (ws : List Worker) (i : ℕ) (w : Worker) → slice_get ws i ≡ Some w → is_number (claims_at w.place) n ≡ false → AllSearch ws → one_if w.searching + (all_have ws cs).claims n ≤ (all_have ws cs).counts
+  one_more [] i w there none each = absurd (cc)
+  one_more (x ∷ ws) zero w there none each =
+      let same = same_Some x w there in
+      let own = ap (λ (v : Worker). one_if (is_number (claims_at v.place) n)) same ∙ ap one_if none in
+      omega (arith, all_counted ws (λ j v at. each (suc j) v at), ap (λ (v : Worker). one_if v.searching) same, own)
+  one_more (x ∷ ws) (suc i) w there none each = omega (arith, one_more ws i w there none (λ j v at. each (suc j) v at), each 0 x refl)
 
-counts_in : (ws : List Worker) (cs : List Caller) (i j : ℕ) (w v : Worker) → slice_get ws i ≡ Some w → slice_get ws j ≡ Some v → i ≢ j → one_if w.searching + one_if v.searching ≤ (all_have ws cs).counts
-counts_in [] cs i j w v at_i at_j apart = absurd (cc)
-counts_in (x ∷ ws) cs zero zero w v at_i at_j apart = absurd (apart refl)
-counts_in (x ∷ ws) cs zero (suc j) w v at_i at_j apart = grind (arith, same_Some, count_in)
-counts_in (x ∷ ws) cs (suc i) zero w v at_i at_j apart = grind (arith, same_Some, count_in)
-counts_in (x ∷ ws) cs (suc i) (suc j) w v at_i at_j apart = let rest = counts_in ws cs i j w v at_i at_j (λ same. apart (ap suc same)) in omega (arith, rest)
+-- A LIST each of whose elements is of one number below n, of each of which there is one at most, has no more than n.
 
--- A LIST each of whose elements is of some number below n, of each of which there is one at most, has no more than n.
+module _ {A : Type 0} (is : ℕ → A → Bool) (n : ℕ) where
+  numbers_counted : (xs : List A) → ((x : A) → Contains xs x → (k : ℕ) × (k < n) × ((j : ℕ) → is j x ≡ (k == j))) → length xs ≤ sum_by (λ k. count_by (is k) xs) (range_with_len 0 n)
+  numbers_counted [] each = omega arith
+  numbers_counted (x ∷ xs) each =
+      let it = each x (0, omega arith, refl) in
+      let rest = numbers_counted xs (λ y among. each y (suc among.0, (let less = among.1 in omega (arith, less)), among.2)) in
+      let first : (j : ℕ) → count_by (is j) (x ∷ xs) ≡ cond (it.0 == j) 1 0 + count_by (is j) xs = λ j. sum_by-cons (λ y. cond (is j y) 1 0) x xs ∙ ap (λ b. cond b 1 0 + count_by (is j) xs) (it.2 j) in
+      let more = sum_one (λ k. count_by (is k) xs) (λ k. count_by (is k) (x ∷ xs)) it.0 0 n (omega arith) (let less = it.1 in omega (arith, less)) (λ j other. omega (arith, first j, ap weigh (not_same it.0 j (λ same. other (sym same))))) in
+      omega (arith, rest, more, first it.0, ap weigh (eq-eqb it.0 it.0 refl))
 
-module _ {A : Type 0} (is : ℕ → A → Bool) where
-  -- how many are of the numbers below this one
-  abbrev of_all : ℕ → List A → ℕ
-  of_all zero xs = 0
-  of_all (suc n) xs = of_all n xs + count_by (is n) xs
-
-  all_after : (n : ℕ) (x : A) (xs : List A) → of_all n (x ∷ xs) ≡ of_all n (x ∷ []) + of_all n xs
-  all_after zero x xs = refl
-  all_after (suc n) x xs = omega (arith, all_after n x xs, count_both (is n) (x ∷ []) xs)
-
-  -- one that is of such a number counts
-  counts_one : (n k : ℕ) (x : A) → k < n → is k x ≡ true → 0 < of_all n (x ∷ [])
-  counts_one zero k x less it = absurd (omega (arith, less))
-  counts_one (suc n) k x less it = grind (arith, count_one, counts_one n k x)
-
-  few_of_each : (n : ℕ) (xs : List A) → ((k : ℕ) (x : A) → Contains xs x → is k x ≡ true → count_by (is k) xs ≤ 1) → of_all n xs ≤ n
-  few_of_each zero xs each = omega arith
-  few_of_each (suc n) xs each =
-      let rest = few_of_each n xs each in
-      let one : count_by (is n) xs ≤ 1 = by_zero (count_by (is n) xs) (λ none. omega (arith, none)) (λ some. let it = counted_there (is n) xs some in each n it.0 it.1 it.2) in
-      omega (arith, rest, one)
-
-  all_counted : (n : ℕ) (xs : List A) → ((x : A) → Contains xs x → (k : ℕ) × (k < n) × (is k x ≡ true)) → length xs ≤ of_all n xs
-  all_counted n [] each = omega arith
-  all_counted n (x ∷ xs) each =
-      let first = each x (0, omega arith, refl) in
-      let one = counts_one n first.0 x first.1 first.2 in
-      let rest = all_counted n xs (λ y among. each y (suc among.0, (let less = among.1 in omega (arith, less)), among.2)) in
-      omega (arith, one, rest, all_after n x xs)
-
-  pub no_more : (n : ℕ) (xs : List A) → ((x : A) → Contains xs x → (k : ℕ) × (k < n) × (is k x ≡ true)) → ((k : ℕ) (x : A) → Contains xs x → is k x ≡ true → count_by (is k) xs ≤ 1) → length xs ≤ n
-  no_more n xs each once = omega (arith, all_counted n xs each, few_of_each n xs once)
+  no_more : (xs : List A) → ((x : A) → Contains xs x → (k : ℕ) × (k < n) × ((j : ℕ) → is j x ≡ (k == j)) × (count_by (is k) xs ≤ 1)) → length xs ≤ n
+  no_more xs each =
+      let few : (k : ℕ) → count_by (is k) xs ≤ 1 = λ k. by_zero (count_by (is k) xs) (λ none. omega (arith, none))
+      (λ some.
+      let one = counted_there (is k) xs some in
+      let it = each one.0 one.1 in
+      subst (λ j. count_by (is j) xs ≤ 1) (eqb-true it.0 k (sym (it.2 k) ∙ one.2)) it.3) in
+      omega (arith, numbers_counted xs (λ x among. let it = each x among in (it.0, it.1, it.2)), sum_few (λ k. count_by (is k) xs) 0 n few)
 
 -- WHERE A WORKER CLOSES, by the parts and by the law: the same places
 
-pub closing_same : (p : Place) → is_of_closing p ≡ closes_at p
+closing_same : (p : Place) → is_of_closing p ≡ closes_at p
 closing_same = grind arith
 
 -- A RUN QUEUE AS IT IS SHOWN
@@ -108,20 +80,13 @@ closing_same = grind arith
 seen_tail : (q : Queue Runnable) → tail_of (queue_seen q) ≡ tail_of q
 seen_tail q = ap (λ n. q.real + n) (length-map q.values (λ (r : Runnable). r.task.0))
 
-seen_room : (q : Queue Runnable) → room_of (queue_seen q) ≡ room_of q
-seen_room q = ap (room_at (head_of q)) (seen_tail q)
-
 -- WHAT A PLACE KNOWS
 
 knows_room : (p : Place) (q : Queue Runnable) → HasQueue p q → KnowsRoom p (queue_seen q)
-knows_room = grind (arith, seen_room)
+knows_room = grind (arith, length-map)
 
 knows_aside : (p : Place) (q : Queue Runnable) → HasQueue p q → KnowsAside p (queue_seen q)
 knows_aside = grind arith
-
--- where there is no sleeper none_asleep sleeps
-none_asleep : (b : Bool) → (b && not true && not true) ≡ true → ⊥
-none_asleep = grind arith
 
 -- WHO IS CLOSING
 
@@ -131,20 +96,14 @@ nobody [] none i = refl
 nobody (x ∷ seats) none zero = (or_parts (is_closing x.phase) (list_any (λ y. is_closing y.phase) seats) none).0
 nobody (x ∷ seats) none (suc i) = nobody seats (or_parts (is_closing x.phase) (list_any (λ y. is_closing y.phase) seats) none).1 i
 
--- so who hasn't ended is open
-still_open : (phase : WorkerPhase) → is_closing phase ≡ false → has_ended phase ≡ false → is_open phase ≡ true
-still_open = grind arith
-
-ended_closes : (phase : WorkerPhase) (closes : Bool) → has_ended phase ≡ true → is_open phase ≡ not closes → closes ≡ true
-ended_closes = grind arith
+-- so one whose inbox isn't shut doesn't close
+stays_open : (phase : WorkerPhase) (closes shut : Bool) (x : Option InClosing) → is_closing phase ≡ false → is_open phase ≡ not closes → (has_ended phase ≡ true → x ≡ Some InClosing.End) → shut ≡ has_shut closes x → shut ≡ false → closes ≡ false
+stays_open = grind arith
 
 -- A RUNNABLE IN THE HAND
 
--- the one of this task that all have
-held_in : (ws : List Worker) (cs : List Caller) (i : ℕ) (w : Worker) (r : Runnable) (t : ℕ) → slice_get ws i ≡ Some w → w.hand ≡ Some r → r.task.0 ≡ t → 0 < (all_have ws cs).runnables t
-held_in [] cs i w r t there hand same = absurd (cc)
-held_in (x ∷ ws) cs zero w r t there hand same = grind (arith, same_Some, count_both, count_one, eq-eqb)
-held_in (x ∷ ws) cs (suc i) w r t there hand same = let rest = held_in ws cs i w r t there hand same in omega (arith, rest)
+held_counts : (t : ℕ) (hand : Option Runnable) (loot : List Runnable) (r : Runnable) → hand ≡ Some r → r.task.0 ≡ t → 0 < runnables_in t (option_to_list hand ++ loot)
+held_counts = grind (arith, count_both, count_one, eq-eqb)
 
 module _ {B : Type 0} where
   -- one that has a runnable is queued, unless some may be let go
@@ -154,15 +113,6 @@ module _ {B : Type 0} where
   -- and so is the root that has one
   root_queued : (flag hand : Option Runnable) (r : Runnable) (slot : TaskSlot B) → hand ≡ Some r → IsRunnable (one_of flag hand) slot → is_ready (phase_seen slot.cell.phase slot.poller) ≡ true
   root_queued = grind arith
-
-  -- one that isn't the root's is that of an ordinary task
-  genuine_of : (t root : ℕ) (tasks : List (TaskSlot B)) (r : Runnable) → t ≢ root → IsHeld (Some t) root tasks r → IsGenuine tasks r
-  genuine_of t root tasks r apart (inl same) = absurd (apart (same_Some t root same))
-  genuine_of t root tasks r apart (inr it) = it
-
--- who has claimed some of a run queue seeks
-claims_seek : (p : Place) (n : ℕ) → claims_at p ≡ Some n → is_seeking p ≡ true
-claims_seek = grind arith
 
 module _ {B L : Type 0} (left : B → L) (spot : L → Option Said → Spot) (p : Plan) (c : Core B) (stands : Stands c) (k : Configuration) where
   abbrev shown : Playing
@@ -180,76 +130,37 @@ module _ {B L : Type 0} (left : B → L) (spot : L → Option Said → Spot) (p 
   abbrev sleepers : List SleeperRecord
   sleepers = c.shared.sleepers.items
 
-  -- ends of requests are sent elsewhere once
-  pub results : (i : ℕ) → length (desk_at k shown i).results ≤ length shown.world.common.requests
+  -- ends of requests are sent elsewhere once, and so are those of sleepers
+  results : (i : ℕ) → length (desk_at k shown i).results ≤ length shown.world.common.requests
   results i =
       by_one desk_of workers i (first_desk k i) (λ (d : Desk). length d.results ≤ length shown.world.common.requests) (omega arith)
       (λ w at_i.
-      let its = stands.together.sound i w at_i in
-      let rooted = its.1.rooted in
-      let answers = w.home.deferred.results.items in
-      let of : ℕ → Answer Reply → Bool = λ n a. is_of_request n a.sender.of in
-      let once : (n : ℕ) (a : Answer Reply) → Contains answers a → is_of_request n a.sender.of ≡ true → count_by (of n) answers ≤ 1 = λ n a among same.
-      (let it = rooted.results a among in
-      let is : it.k ≡ n = eqb-true it.k n (sym (ap (is_of_request n) it.reply.of) ∙ same) in
-      subst (λ j. count_by (of j) answers ≤ 1) is (let sum = rooted.sent it.k it.r it.there it.worker in omega (arith, sum, at_most (goes_elsewhere it.r)))) in
-      let few = no_more of (length records) answers
-      (λ a among.
+      let rooted = (stands.together.sound i w at_i).1.rooted in
+      let few = no_more (λ (n : ℕ) (a : Answer Reply). is_of_request n a.sender.of) (length records) w.home.deferred.results.items (λ a among.
       let it = rooted.results a among in
-      (it.k, slice_get_within records it.k it.r it.there, ap (is_of_request it.k) it.reply.of ∙ eq-eqb it.k it.k refl)) once in
-      let sent : length (results_in answers) ≡ length answers = length-map answers (λ a. number_heard a.sender.of) in
-      let made = length-map records (λ r. r.shown) in
-      omega (arith, few, sent, made))
+      let sum = rooted.sent it.k it.r it.there it.worker in
+      (it.k, slice_get_within records it.k it.r it.there, λ n. ap (is_of_request n) it.reply.of, omega (arith, sum, at_most (goes_elsewhere it.r)))) in
+      omega (arith, few, length-map w.home.deferred.results.items (λ a. number_heard a.sender.of), length-map records (λ r. r.shown)))
 
-  -- and so are those of sleepers
-  pub completions : (i : ℕ) → length (desk_at k shown i).completions ≤ length shown.world.common.sleepers
+  completions : (i : ℕ) → length (desk_at k shown i).completions ≤ length shown.world.common.sleepers
   completions i =
       by_one desk_of workers i (first_desk k i) (λ (d : Desk). length d.completions ≤ length shown.world.common.sleepers) (omega arith)
       (λ w at_i.
-      let its = stands.together.sound i w at_i in
-      let rooted = its.1.rooted in
-      let told = w.home.deferred.notes.completions.items in
-      let of : ℕ → ForwardedResult Reply → Bool = λ n a. is_of_timer n a.sender.of in
-      let heard : (a : ForwardedResult Reply) (among : Contains told a) → a.sender.of ≡ Heard.Timer (rooted.completions a among).n = λ a among. ap (λ (y : Reply). y.of) (rooted.completions a among).reply in
-      let once : (n : ℕ) (a : ForwardedResult Reply) → Contains told a → is_of_timer n a.sender.of ≡ true → count_by (of n) told ≤ 1 = λ n a among same.
-      (let it = rooted.completions a among in
-      let is : it.n ≡ n = eqb-true it.n n (sym (ap (is_of_timer n) (heard a among)) ∙ same) in
-      subst (λ j. count_by (of j) told ≤ 1) is (let sum = rooted.sleeper_sent it.n it.z it.there it.worker in omega (arith, sum, at_most (ends_elsewhere it.z)))) in
-      let few = no_more of (length sleepers) told
-      (λ a among.
+      let rooted = (stands.together.sound i w at_i).1.rooted in
+      let few = no_more (λ (n : ℕ) (a : ForwardedResult Reply). is_of_timer n a.sender.of) (length sleepers) w.home.deferred.notes.completions.items (λ a among.
       let it = rooted.completions a among in
-      (it.n, slice_get_within sleepers it.n it.z it.there, ap (is_of_timer it.n) (heard a among) ∙ eq-eqb it.n it.n refl)) once in
-      let sent : length (completions_in told) ≡ length told = length-map told (λ a. number_heard a.sender.of) in
-      let made = length-map sleepers (λ z. z.shown) in
-      omega (arith, few, sent, made))
+      let sum = rooted.sleeper_sent it.n it.z it.there it.worker in
+      (it.n, slice_get_within sleepers it.n it.z it.there, λ n. ap (λ (y : Reply). is_of_timer n y.of) it.reply, omega (arith, sum, at_most (ends_elsewhere it.z)))) in
+      omega (arith, few, length-map w.home.deferred.notes.completions.items (λ a. number_heard a.sender.of), length-map sleepers (λ z. z.shown)))
 
-  -- Each worker that has claimed some of a run queue searches: this is so by the moves.
-  module _ (seeks : (j n : ℕ) → claims_at (place_at k shown j) ≡ Some n → (desk_at k shown j).searching ≡ true) where
-    pub counted : (i : ℕ) → one_at (desk_at k shown i).searching + one_at (not ((queue_of shown.things i).gap == 0)) ≤ shown.things.idle.count
-    counted i =
-        by_worker left spot p c stands k i (λ d me seat q m. one_at d.searching + one_at (not (q.gap == 0)) ≤ c.shared.idle.count) (λ past. omega arith)
-        (λ w chair it.
-        let whole = stands.together.whole in
-        let mine = same_one w.searching in
-        let gap = same_one (not (chair.queue.gap == 0)) in
-        elim (cases_Bool (not (chair.queue.gap == 0))) [
-          | inl claimed ↦
-              let some : one_if (not (chair.queue.gap == 0)) ≡ 1 = ap one_if claimed in
-              let claims = whole.claims i chair it.there in
-              let who = who_claims workers c.callers.items i (omega (arith, claims, some)) in
-              let v : Worker = who.who in
-              let its = stands.together.sound who.at v who.there in
-              let apart : i ≢ who.at = λ same. claims_other v.place c.shared.config v.index i c.shared.seats.items its.1.aims who.claims (same ∙ sym its.0) in
-              let desk = mapped desk_of workers who.at v (first_desk k who.at) who.there in
-              let searches : v.searching ≡ true = sym (ap (λ (d : Desk). d.searching) desk) ∙ seeks who.at i (ap (λ (d : Desk). claims_at d.place) desk ∙ number_is (claims_at v.place) i who.claims) in
-              let one : one_if v.searching ≡ 1 = ap one_if searches in
-              let both = counts_in workers c.callers.items i who.at w v it.works who.there apart in
-              omega (arith, whole.counts, both, one, mine, gap, some)
-          | inr free ↦
-              let none : one_if (not (chair.queue.gap == 0)) ≡ 0 = ap one_if free in
-              let one = count_in workers c.callers.items i w it.works in
-              omega (arith, whole.counts, one, mine, gap, none)
-        ])
+  -- each worker that has claimed some of a run queue seeks, and so it searches
+  counted : HaveCounts k shown → (i : ℕ) → one_if (desk_at k shown i).searching + one_if (not ((queue_of shown.things i).gap == 0)) ≤ shown.things.idle.count
+  counted counts i =
+      by_worker left spot p c stands k i (λ d me seat q m. one_if d.searching + one_if (not (q.gap == 0)) ≤ c.shared.idle.count) (λ past. omega arith)
+      (λ w chair it.
+      let searches : AllSearch c.callers.items i workers = λ j v there. claimer_searches v.place i v.searching (subst (λ (d : Desk). is_seeking d.place ≡ true → d.searching ≡ true) (mapped desk_of workers j v (first_desk k j) there) (counts j)) in
+      let both = one_more c.callers.items i workers i w it.works (claims_other w.place c.shared.config w.index i seats it.sound.aims it.index) searches in
+      omega (arith, stands.together.whole.counts, stands.together.whole.claims i chair it.there, both))
 
   -- the queue that it is to steal from is that of a chair
   knows_tail : (place : Place) (i : ℕ) → c.shared.config.workers ≤ length seats → Aims place c.shared.config i seats → KnowsTail c.shared.config shown.things place
@@ -275,14 +186,9 @@ module _ {B L : Type 0} (left : B → L) (spot : L → Option Said → Spot) (p 
         let it : Sits c 0 w chair = sits.2 in
         let phased = it.sound.phased chair it.mine in
         let pool : chair.pool ≡ true = whole.in_pool 0 chair it.there ∙ lt-ltb 0 c.shared.config.workers it.sound.config.workers in
-        let on : has_ended chair.phase ≡ false = false_from_ne_true (has_ended chair.phase)
-        (λ ended.
-        let closes : closes_at w.place ≡ true = ended_closes chair.phase (closes_at w.place) ended phased.opened in
-        let shuts : chair.mailbox.inbox.closed ≡ true = phased.shut ∙ ap (has_shut (closes_at w.place)) (phased.ended ended) ∙ closes in
-        true≢false (sym (whole.pool.shut 0 chair it.there pool shuts j before.chair before.there) ∙ before.going)) in
+        let unshut = false_from_ne_true chair.mailbox.inbox.closed (λ h. true≢false (sym (whole.pool.shut 0 chair it.there pool h j before.chair before.there) ∙ before.going)) in
         let calm : is_closing chair.phase ≡ false = ap (λ (y : Seat). is_closing y.phase) (sym (seat_is left spot p c stands k 0 w chair it)) ∙ nobody shown.world.common.seats none 0 in
-        let opened : is_open chair.phase ≡ true = still_open chair.phase calm on in
-        (phased.by_zero it.index).1 ∙ not-true (closes_at w.place) (sym phased.opened ∙ opened)
+        (phased.by_zero it.index).1 ∙ stays_open chair.phase (closes_at w.place) chair.mailbox.inbox.closed (closing_in w.place) calm phased.opened phased.ended phased.shut unshut
 
     begins : (i t : ℕ) → is_open (seat_of shown.world.common i).phase ≡ true → place_at k shown i ≡ Place.Poll t InPoll.BeginPoll → is_ready (task_of shown.world.common t).phase ≡ true
     begins i t =
@@ -306,15 +212,15 @@ module _ {B L : Type 0} (left : B → L) (spot : L → Option Said → Spot) (p 
                   by_slot its.root (ap (slice_get c.shared.tasks.items) same ∙ its.there) (root_queued w.root_ready (root_in_hand (Some t) w.root w.hand) r its.root in_hand its.once)
               | inr apart ↦
                   let among : Contains (option_to_list w.hand) r = subst (λ o. Contains (option_to_list o) r) (sym hand) (0, omega arith, refl) in
-                  let genuine = genuine_of t w.root c.shared.tasks.items r apart (sound.genuine r among) in
+                  let genuine : IsGenuine c.shared.tasks.items r = elim (sound.genuine r among) [ inl next ↦ absurd (apart (same_Some t w.root next)) | inr it ↦ it ] in
                   let here : slice_get c.shared.tasks.items t ≡ Some genuine.slot = ap (slice_get c.shared.tasks.items) (sym number) ∙ genuine.there in
                   let stays = set_open w.index (before_in_poll t InPoll.BeginPoll w c.shared sound (sound.serves apart)) in
                   let gone : may_let_go c.shared ≡ false = rw stays (false_from_ne_true c.shared.global.closed (λ closed. true≢false (sym (shut.queue closed) ∙ stays))) in
-                  let all = all_have c.workers.items c.callers.items in
-                  let one : HasOne false genuine.slot.cell.phase (all.runnables t + stock t c.shared) =
-                  subst (λ b. HasOne b genuine.slot.cell.phase (all.runnables t + stock t c.shared)) gone (stands.together.whole.runnables t genuine.slot here genuine.ordinary) in
-                  let some = held_in c.workers.items c.callers.items i w r t it.works hand number in
-                  by_slot genuine.slot here (queued_by genuine.slot.cell.phase genuine.slot.poller (all.runnables t + stock t c.shared) one (omega (arith, some)))
+                  let has = has_whole workers c.callers.items c.shared stands.together i w it.works in
+                  let mine = runnables_in t (option_to_list w.hand ++ w.loot.values) in
+                  let one : HasOne false genuine.slot.cell.phase ((has.others.runnables t + mine) + stock t c.shared) =
+                  subst (λ b. HasOne b genuine.slot.cell.phase ((has.others.runnables t + mine) + stock t c.shared)) gone (has.whole.runnables t genuine.slot here genuine.ordinary) in
+                  by_slot genuine.slot here (queued_by genuine.slot.cell.phase genuine.slot.poller _ one (let some = held_counts t w.hand w.loot.values r hand number in omega (arith, some)))
             ]
 
   granted : c.shared.config ≡ k → IsShut shown → HaveCounts k shown → IsGranted k shown
@@ -334,14 +240,14 @@ module _ {B L : Type 0} (left : B → L) (spot : L → Option Said → Spot) (p 
         serves = λ i. by_worker left spot p c stands k i (λ d me seat q m. me.serving ≡ serves_at d.place) (λ past. refl) (λ w chair it. refl);
         sampled = λ i. by_worker left spot p c stands k i (λ d me seat q m. me.sampled ≤ c.shared.clock) (λ past. omega arith) (λ w chair it. it.sound.time.not_after);
         ready = λ i t opened none at. begins shut none i t opened at;
-        counted = counted (λ j n is. counts j (claims_seek _ n is));
+        counted = counted counts;
         -- an open worker let none of its sleepers go
         beds = λ i z.
             by_worker left spot p c stands k i (λ d me seat q m. is_open seat.phase ≡ true → is_asleep i (sleeper_of shown.world.common z) ≡ true → is_in_slots z d.timers ≡ true)
             (λ past h. absurd (false≢true h))
             (λ w chair it open_still.
             by_one (λ (r : SleeperRecord). r.shown) c.shared.sleepers.items z no_sleeper (λ (y : Sleeper). is_asleep i y ≡ true → is_in_slots z (desk_of w).timers ≡ true)
-            (λ h. absurd (none_asleep (0 == i) h))
+            (λ h. absurd (grind arith))
             (λ r there asleep.
             let phased = it.sound.phased chair it.mine in
             let stays : w.home.closing ≡ false = phased.told ∙ not-true (closes_at w.place) (sym phased.opened ∙ open_still) in

@@ -3,10 +3,8 @@ pub mod Applying
 pub mod Beginning
 pub mod Started
 pub mod Taking
-pub mod QueuedOnce
 pub mod InTurn
 pub mod GivenParts
 pub mod Placed
-pub mod Given
 pub mod Steady
 pub mod Granted

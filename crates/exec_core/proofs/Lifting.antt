@@ -1,21 +1,19 @@
 -- Own part and common part are changed by a step of one worker, and all else is as it was: so the whole takes a step of
 -- the machine, and that of the moves.
-pub use Rattle.exec_task.specs.declared.body.Said.{Said}
-use Rattle.std.proofs.{Common.{◌≡◌, ◌≢◌, ℕ, suc, ◌+◌, ◌<◌, ◌≤◌, Bool, true, false, List, [], ◌∷◌, ◌++◌, length, map, Option, None, Some, refl, sym, ap, subst, ◌∙◌, arith, option_to_list, slice_get, slice_set, inl, inr}, lemmas.{Bool.cases_lt, List.{map-append, map-set, length-set, length-map, length-append, append-nil}, Option.{slice_get-map, slice_get_within, get_or_from_slice_get}}}
-use Rattle.exec_machine.specs.{declared.{config.Configuration.Configuration, event.{Event.Event, StepResult.TheVariants.Did}}, After.{own_after, common_after, made_by}, Callers.is_enabled, Choice.Choice, Progress.Plan, Run.after_event, World.{World, Own, Common, no_own, own_of as own_at}}
-use Rattle.exec_moves.specs.{Pop.shard_count, Call.CallDesk, Plays.{Played, Playing, by_action, by_move, desk_of as desk_at, first_desk, newcomers}, State.{Desk, Things}}
-use Rattle.exec_parts.{specs.{declared.parts.{record.Record.Record, seat.Seat.Seat as Chair, shared.Shared.Shared, sleeping.SleeperRecord.SleeperRecord, task_slot.TaskSlot.TaskSlot, worker.Worker.Worker}, Spots.Spot, View.{Views, Visible, own_of, visible, with_view, desk_of, common_of, seats_seen, things_with}}, proofs.Facts.{by_number, same_Some}}
-use Rattle.exec_invariants.{specs.{Acting.PerformsAll, Sound.Sound, Spares.SparesBy, Whole.{IsWhole, Profile}, Works.{Beside, BesideNewcomer, BesideWith, WorksWith, Suits, with_born}}, proofs.{SparedRecord.there_within, Turning.set_found, Lined.mapped}}
-use Rattle.exec_polling.specs.{declared.caller.Caller.Caller, Calling.{CallBeside, CallSound, desk_of_caller}}
-use Rattle.exec_steps.{specs.Together.StandTogether, proofs.Together.{caller_stepped, worker_born, worker_stepped}}
-use Rattle.exec_core.specs.{Lift.{Stands, world, playing, views, WorkerSteps, WorkerStays, Takes, IsAsBefore}, declared.executor.Core.Core}
-use Rattle.exec_machine.specs.declared.step.Action.TheVariants as action
+pub use Rattle.exec_core.specs.Words.{Said}
+pub use Rattle.exec_books.proofs.Kept.{booked_then, first_booked}
+pub use Rattle.exec_invariants.proofs.{AskBoxes.box_there, Closes.now_done, FiringRemoved.slot_none, FiringSeen.bed_named, GateLines.key_number, Gated.durable_of_file, HandedOver.my_mail, HoldSteps.{get_front, held_there, hold_once}, HoldWaits.held_number, Lined.{mapped, unmapped}, Seats.seat_there, Seen.{request_at, sleeper_at}, SparedRecord.there_within, TaskTakes.holder_there, TaskWants.held_so, Turning.set_found}
+pub use Rattle.exec_parts.proofs.{Facts.{and_from, by_number, same_Some}, LeafPowers.power_is}
+pub use Rattle.exec_polling.proofs.{Begun.{begun_sound, none_there, not_both}, GateGrown.found_last, MadePlaces.none_summed}
+pub use Rattle.exec_progress.proofs.Kept.{bounded_there, falls, first_paced, paced_then}
+pub use Rattle.exec_rest.proofs.{Bare.{bare_first, bare_goes_on}, First.first_restful, Fresh.{fresh_first, fresh_goes_on, woken_by}, NoMail.nothing_mailed, OtherMail.first_posted, Rest.{callers, down, rests}, Shut.{shut_first, shut_goes_on}, Step.{goes_on, posted_goes_on}}
+pub use Rattle.exec_settled.proofs.{AwaitedKept.{awaited_then, first_awaited}, Parked.{nobody_sleeps_on_work, none_is_forgotten}, PermittedKept.{first_permitted, permitted_then}, Rightly.rightly, SettledKept.{first_settled, settled_then}}
+pub use Rattle.exec_shutdown.proofs.{Shutdown.shuts_down, Stopping.{first_stops, stops_then}}
+pub use Rattle.exec_steps.proofs.Together.{caller_stepped, last_or_before, others_of, worker_born, worker_stepped}
+use Rattle.std.proofs.{Common.{Bool, List, None, Option, Some, [], ap, arith, false, length, map, option_to_list, refl, slice_get, slice_set, subst, suc, sym, true, ℕ, ◌++◌, ◌+◌, ◌<◌, ◌∙◌, ◌∷◌, ◌≡◌, ◌≢◌}, lemmas.{List.{append-nil, length-append, length-map, length-set, map-append, map-set}, Option.{get_or_from_slice_get, slice_get-map, slice_get_within}}}
+use Rattle.exec_core.specs.{Words.{Configuration, Event, Did, Action, own_after, common_after, made_by, is_enabled, Choice, Plan, after_event, World, Own, Common, no_own, own_at, shard_count, CallDesk, Played, Playing, by_action, by_move, desk_at, first_desk, newcomers, Desk, Things, Record, Chair, SleeperRecord, TaskSlot, Worker, Spot, Views, Visible, own_of, visible, with_view, desk_of, common_of, seats_seen, things_with, PerformsAll, Sound, SparesBy, box_of, nap_of, thing_of, IsWhole, Profile, Beside, BesideWith, WorksWith, Suits, with_born, Caller, CallBeside, CallSound, desk_of_caller, StandTogether}, Lift.{Stands, world, playing, views, WorkerSteps, WorkerStays, Takes, IsAsBefore}, declared.executor.Core.Core}
 
 -- LISTS
-
--- what would be below the less, were it not below the greater
-still_below : (n m i : ℕ) → n ≤ m → (m ≤ i → i < n) → i < m
-still_below n m i grows past = elim (cases_lt i m) [ inl within ↦ within | inr over ↦ (let less = past over in omega (arith, less, grows)) ]
 
 -- What has been put in the place of its like can't be told apart.
 pub unchanged : {A B : Type 0} (f : A → B) (xs ys : List A) (i : ℕ) (x y : A) → slice_get xs i ≡ Some x → ys ≡ slice_set xs i y → f y ≡ f x → map f ys ≡ map f xs
@@ -61,46 +59,20 @@ module _ {B : Type 0} where
 
   -- WHAT STANDS THEN
 
-  -- each request and each sleeper is one of a worker then
-  pub record AreOwned (n : ℕ) (s : Shared B) : Type 0 where
-    pub owned : (k : ℕ) (r : Record) → slice_get s.requests.items k ≡ Some r → r.shown.worker < n
-    pub asleep : (k : ℕ) (z : SleeperRecord) → slice_get s.sleepers.items k ≡ Some z → z.shown.worker < n
+  -- each request and each sleeper is one of a worker
+  pub owned : (c : Core B) → Stands c → (k : ℕ) (r : Record) → slice_get c.shared.requests.items k ≡ Some r → r.shown.worker < length c.workers.items
+  owned c stands k r there =
+      (let few = stands.together.whole.holding.of_worker k (thing_of r) (mapped thing_of c.shared.requests.items k r there) in let many = length-map c.shared.seats.items box_of in omega (arith, few, many, stands.together.seats))
 
-  owned_more : (more : Bool) (n m : ℕ) (s s' : Shared B) → AreOwned n s → n ≤ m → ((j : ℕ) → m ≤ j → SparesBy more j s s') → AreOwned m s'
-  owned_more more n m s s' were grows spares =
-      record {
-        owned = λ k r there. still_below n m r.shown.worker grows (λ past.
-            let was = (spares r.shown.worker past).records_only k r there refl in
-            subst (λ j. j < n) (sym (ap (λ (x : Record). x.shown.worker) was.2.kept)) (were.owned k was.0 was.1));
-        asleep = λ k z there. still_below n m z.shown.worker grows (λ past.
-            let was = (spares z.shown.worker past).sleepers_only k z there refl in
-            subst (λ j. j < n) (sym (ap (λ (x : SleeperRecord). x.shown.worker) was.2.kept)) (were.asleep k was.0 was.1));
-      }
+  pub asleep : (c : Core B) → Stands c → (k : ℕ) (z : SleeperRecord) → slice_get c.shared.sleepers.items k ≡ Some z → z.shown.worker < length c.workers.items
+  asleep c stands k z there =
+      (let few = stands.together.whole.holding.of_worker_too k (nap_of z) (mapped nap_of c.shared.sleepers.items k z there) in let many = length-map c.shared.seats.items box_of in omega (arith, few, many, stands.together.seats))
 
   pub stands_worked : (c d : Core B) (i : ℕ) (w w' : Worker) → Stands c → slice_get c.workers.items i ≡ Some w → d.workers.items ≡ slice_set c.workers.items i w' → d.callers ≡ c.callers
       → w'.index ≡ w.index → Sound w' d.shared → Beside w c.shared w' d.shared → Stands d
   stands_worked c d i w w' stands was workers callers index sound beside =
-      let many : length d.workers.items ≡ length c.workers.items = ap length workers ∙ length-set c.workers.items i w' in
-      let mine : w.index ≡ i = (stands.together.sound i w was).0 in
-      let within = slice_get_within c.workers.items i w was in
       let then : StandTogether (slice_set c.workers.items i w') c.callers.items d.shared = worker_stepped c.workers.items c.callers.items c.shared stands.together i w w' d.shared was index sound beside in
-      let owned : AreOwned (length d.workers.items) d.shared =
-      owned_more false (length c.workers.items) (length d.workers.items) c.shared d.shared (record { owned = stands.owned; asleep = stands.asleep }) (omega (arith, many))
-      (λ j past. beside.spares j (λ same. omega (arith, same, past, many, within, mine))) in
-      grind arith
-
-  -- the same, where it made a worker
-  stands_born : (c d : Core B) (i : ℕ) (w w' v : Worker) (e : Event) → Stands c → slice_get c.workers.items i ≡ Some w → d.workers.items ≡ slice_set c.workers.items i w' ++ v ∷ [] → d.callers ≡ c.callers
-      → w'.index ≡ w.index → Sound w' d.shared → BesideNewcomer v w c.shared e w' d.shared → Stands d
-  stands_born c d i w w' v e stands was workers callers index sound beside =
-      let many : length d.workers.items ≡ length c.workers.items + 1 = ap length workers ∙ length-append (slice_set c.workers.items i w') (v ∷ []) ∙ ap (λ n. n + 1) (length-set c.workers.items i w') in
-      let mine : w.index ≡ i = (stands.together.sound i w was).0 in
-      let within = slice_get_within c.workers.items i w was in
-      let then : StandTogether (slice_set c.workers.items i w' ++ v ∷ []) c.callers.items d.shared = worker_born c.workers.items c.callers.items c.shared stands.together i w w' v d.shared e was index sound beside in
-      let owned : AreOwned (length d.workers.items) d.shared =
-      owned_more true (length c.workers.items) (length d.workers.items) c.shared d.shared (record { owned = stands.owned; asleep = stands.asleep }) (omega (arith, many))
-      (λ j past. beside.spares j (λ same. omega (arith, same, past, many, within, mine))) in
-      grind arith
+      grind (arith, length-set)
 
   -- who has the same root has the same number
   old_number : (more : Bool) (c d : Core B) (w w' : Worker) → Stands c → Sound w c.shared → Sound w' d.shared → w'.root ≡ w.root → ((j : ℕ) → j ≢ w.index → SparesBy more j c.shared d.shared) → w'.index < length c.workers.items → w'.index ≡ w.index
@@ -132,18 +104,21 @@ module _ {B : Type 0} where
       let within = slice_get_within c.shared.tasks.items w.root mine.runnable.root mine.runnable.there in
       absurd (omega (arith, within, roots, root, beside.root)))
 
+  -- the same, where it may have made a worker
   stands_with : (c d : Core B) (i : ℕ) (w w' : Worker) (born : Option Worker) (e : Event) → Stands c → slice_get c.workers.items i ≡ Some w → d.workers.items ≡ slice_set c.workers.items i w' ++ option_to_list born → d.callers ≡ c.callers
       → w'.index ≡ w.index → Sound w' d.shared → BesideWith born w c.shared e w' d.shared → Stands d
   stands_with c d i w w' None e stands was workers callers index sound beside = stands_worked c d i w w' stands was (workers ∙ append-nil (slice_set c.workers.items i w')) callers index sound beside
-  stands_with c d i w w' (Some v) e stands was workers callers index sound beside = stands_born c d i w w' v e stands was workers callers index sound beside
+  stands_with c d i w w' (Some v) e stands was workers callers index sound beside =
+      record {
+        some = rw workers (omega (arith, length-append (slice_set c.workers.items i w') (v ∷ [])));
+        callers = ap (λ xs. length xs.items) callers ∙ stands.callers;
+        together = rw (workers, callers) (worker_born c.workers.items c.callers.items c.shared stands.together i w w' v d.shared e was index sound beside);
+      }
 
   pub stands_called : (c d : Core B) (j : ℕ) (x x' : Caller) → Stands c → slice_get c.callers.items j ≡ Some x → d.callers.items ≡ slice_set c.callers.items j x' → d.workers ≡ c.workers
       → CallSound x' d.shared → CallBeside x c.shared x' d.shared → Stands d
   stands_called c d j x x' stands was callers workers sound beside =
-      let many : length d.workers.items ≡ length c.workers.items = ap (λ xs. length xs.items) workers in
       let then : StandTogether c.workers.items (slice_set c.callers.items j x') d.shared = caller_stepped c.workers.items c.callers.items c.shared stands.together j x x' d.shared was sound beside in
-      let owned : AreOwned (length d.workers.items) d.shared =
-      owned_more false (length c.workers.items) (length d.workers.items) c.shared d.shared (record { owned = stands.owned; asleep = stands.asleep }) (omega (arith, many)) (λ k past. beside.spares k) in
       grind (arith, length-set)
 
   -- what stands after a step of no party that keeps what is sound
@@ -170,15 +145,7 @@ module _ {B : Type 0} where
             };
         whole = whole _ together.whole;
       } in
-      record {
-        some = subst (λ xs. 0 < length xs.items) (sym workers) stands.some;
-        callers = ap (λ xs. length xs.items) callers ∙ stands.callers;
-        together = subst (λ xs. StandTogether xs.items d.callers.items d.shared) (sym workers) (subst (λ xs. StandTogether c.workers.items xs.items d.shared) (sym callers) then);
-        owned = λ k r there.
-            subst (λ xs. r.shown.worker < length xs.items) (sym workers) (stands.owned k r (ap (λ xs. slice_get xs.items k) (sym requests) ∙ there));
-        asleep = λ k z there.
-            subst (λ xs. z.shown.worker < length xs.items) (sym workers) (stands.asleep k z (ap (λ xs. slice_get xs.items k) (sym sleepers) ∙ there));
-      }
+      grind arith
 
 module _ {B L : Type 0} (left : B → L) (spot : L → Option Said → Spot) where
   pub suits_it : (p : Plan) (c : Core B) (i : ℕ) (w : Worker) → Stands c → slice_get c.workers.items i ≡ Some w → c.shared.config ≡ p.config → Suits p (views c) w c.shared
@@ -232,8 +199,8 @@ module _ {B L : Type 0} (left : B → L) (runs : L → Plan → Option ℕ → T
 
   lifted_at : (p : Plan) (c d : Core B) (w w' : Worker) (born : Option Worker) (e : Event) → Stands c → Stands d → c.shared.config ≡ p.config → slice_get c.workers.items w.index ≡ Some w
       → d.workers.items ≡ slice_set c.workers.items w.index w' ++ option_to_list born → d.callers ≡ c.callers → WorksWith left spot born p (views c) w c.shared e w' d.shared → BesideWith born w c.shared e w' d.shared
-      → is_enabled (world left spot p c).common (action.Work w.index) ≡ true
-      → Takes left spot p c (action.Work w.index) e d
+      → is_enabled (world left spot p c).common (Action.Work w.index) ≡ true
+      → Takes left spot p c (Action.Work w.index) e d
   lifted_at p c d w w' born e stands still config was workers callers works beside enabled =
       let vs = views c in
       let i = w.index in
@@ -248,21 +215,21 @@ module _ {B L : Type 0} (left : B → L) (runs : L → Plan → Option ℕ → T
       let owns : map own_of d.workers.items ≡ slice_set (map own_of c.workers.items) i me_then ++ made_by all e = grind (arith, seen_born own_of c.workers.items d.workers.items i w' born workers, works.own, shown.0) in
       let desks : map desk_of d.workers.items ≡ slice_set (map desk_of c.workers.items) i (desk_of w') ++ newcomers p.config e =
       seen_born desk_of c.workers.items d.workers.items i w' born workers ∙ ap (λ xs. slice_set (map desk_of c.workers.items) i (desk_of w') ++ xs) shown.1 in
-      let becomes : world left spot p d ≡ after_event p.config (world left spot p c) (action.Work i) e works.choice =
+      let becomes : world left spot p d ≡ after_event p.config (world left spot p c) (Action.Work i) e works.choice =
       subst (λ me. world left spot p d ≡ (let x : World = record { workers = slice_set (map own_of c.workers.items) i (own_after p.config me all i e works.choice) ++ made_by all e; common = common_after p.config me all i e works.choice } in x)) (sym mine) (world_by _ _ _ _ owns common) in
       let x = playing left spot p c in
-      let goes : by_action p.config x (action.Work i) ≡ by_move p.config x i (record { event = e; choice = works.choice; desk = desk_of w'; thing = things_with then d.shared }) = grind (arith, mine, here, works.moves) in
-      let next : by_move p.config x i (record { event = e; choice = works.choice; desk = desk_of w'; thing = things_with then d.shared }) ≡ record { told = (record { action = action.Work i; said = Did e }, works.choice); next = playing left spot p d } =
-      ap (λ n. (let it : Played = record { told = (record { action = action.Work i; said = Did e }, works.choice); next = n } in it))
+      let goes : by_action p.config x (Action.Work i) ≡ by_move p.config x i (record { event = e; choice = works.choice; desk = desk_of w'; thing = things_with then d.shared }) = grind (arith, mine, here, works.moves) in
+      let next : by_move p.config x i (record { event = e; choice = works.choice; desk = desk_of w'; thing = things_with then d.shared }) ≡ record { told = (record { action = Action.Work i; said = Did e }, works.choice); next = playing left spot p d } =
+      ap (λ n. (let it : Played = record { told = (record { action = Action.Work i; said = Did e }, works.choice); next = n } in it))
       (playing_by _ _ _ _ _ _ _ _ (sym becomes) (sym desks) (ap (λ xs. map desk_of_caller xs.items) (sym callers)) (ap (λ v. things_with v d.shared) (sym seen))) in
       grind arith
 
   -- THE LIFT
   pub lifted : (i : ℕ) (p : Plan) (c d : Core B) (e : Event) → Stands c → WorkerSteps left runs holds spot i c e d
-      → c.shared.config ≡ p.config → PerformsAll left runs holds p c.shared → is_enabled (world left spot p c).common (action.Work i) ≡ true
-      → Takes left spot p c (action.Work i) e d
+      → c.shared.config ≡ p.config → PerformsAll left runs holds p c.shared → is_enabled (world left spot p c).common (Action.Work i) ≡ true
+      → Takes left spot p c (Action.Work i) e d
   lifted i p c d e stands it config performs enabled =
       let at = stands.together.sound i it.before it.was in
       let works = it.steps.0 p (views c) (suits_it left spot p c i it.before stands it.was config) performs in
-      subst (λ k. slice_get c.workers.items k ≡ Some it.before → d.workers.items ≡ slice_set c.workers.items k it.after ++ option_to_list it.born → is_enabled (world left spot p c).common (action.Work k) ≡ true → Takes left spot p c (action.Work k) e d) at.0
+      subst (λ k. slice_get c.workers.items k ≡ Some it.before → d.workers.items ≡ slice_set c.workers.items k it.after ++ option_to_list it.born → is_enabled (world left spot p c).common (Action.Work k) ≡ true → Takes left spot p c (Action.Work k) e d) at.0
       (λ was workers may. lifted_at p c d it.before it.after it.born e stands (stands_again i c d e stands it) config was workers it.callers works it.steps.3 may) it.was it.workers enabled

@@ -1,12 +1,12 @@
 -- The executor begins as the machine does, and shows the first state of the moves: nobody has anything, and so all balances hold.
-use Rattle.std.{proofs.{Common.{◌≡◌, ℕ, zero, suc, ◌==◌, ◌&&◌, Bool, true, false, not, Contains, List, [], ◌∷◌, ◌++◌, length, map, replicate, Some, None, refl, sym, ap, subst, ◌∙◌, arith, if◌then◌else◌, slice_get, slice_index_or, ◌+◌, Option}, lemmas.{Bool.{false≢true, lt-ltb}, List.{Sums.sum_by-cons, length-map}, Option.slice_get_within}}, specs.List.range_with_len}
+use Rattle.std.{proofs.{Common.{◌≡◌, ℕ, zero, suc, ◌&&◌, Bool, true, false, not, List, [], ◌∷◌, length, map, replicate, Some, None, refl, sym, ap, subst, ◌∙◌, arith, if◌then◌else◌, slice_get, slice_index_or, ◌+◌, Option, ◌==◌, Contains, ◌++◌}, lemmas.{Bool.{false≢true, lt-ltb}, List.{Sums.sum_by-cons, length-map}, Option.slice_get_within}}, specs.List.range_with_len}
 use Rattle.exec_machine.specs.{declared.config.Configuration.Configuration, Progress.Plan, Run.{first_common, first_owns, first_tasks, first_world}, Tasks.{new_own, new_seat, new_task}, World.Task}
 use Rattle.exec_words.specs.Idle.{is_in}
 use Rattle.exec_opens.specs.Opens.{fresh_open}
 use Rattle.exec_task.specs.{declared.{runnable.Runnable.Runnable, body.Said.{Said, TheVariants.Start}}, TaskSet.{AreAtHome, Set, at_number}}
 use Rattle.exec_moves.specs.{Pop.shard_count, Plays.{first_desk, first_desks, first_things, first_playing}, State.{no_queue, no_wake_poll, no_word}}
 use Rattle.exec_parts.{specs.{declared.parts.{role.Role.TheVariants.Pool, seat.Seat.Seat as Chair, shared.Shared.Shared, task_slot.TaskSlot.TaskSlot, worker.Worker.Worker}, Dedicated.Begins, Records.{IsFreshSeat, numbers_held}, Spots.Spot, View.{gate_seen, numbers_of_passing, Visible, visible, own_of, desk_of, common_of, inbox_at, open_seen, polls_seen, queue_at, queue_seen, message_of, seat_seen, seats_seen, task_seen, things_with, word_at}}, proofs.Facts.same_Some}
-use Rattle.exec_invariants.{specs.{Drained.in_set, Holding.{IsHolding, Mail, box_of, holder_of, nap_of, thing_of}, Places.{Drops, no_drops, one_if}, Whole.{IsWhole, Profile, claimed_count, hands_of, stock, with_worker}, Acting.{Performs, PerformsAll}}, proofs.Lined.unmapped}
+use Rattle.exec_invariants.{specs.{Gates.HaveGates, Drained.{in_set, IsPool}, Holding.{IsHolding, Mail, box_of, holder_of, nap_of, thing_of}, Places.{no_drops, one_if}, Whole.{IsWhole, Profile, claimed_count, duties_of, hands_of, stock, with_worker}, Acting.{Performs, PerformsAll}}, proofs.Lined.unmapped}
 use Rattle.exec_polling.{specs.{declared.caller.Caller.Caller, Calling.{CallSound, call_of, desk_of_caller}}, proofs.{Begun.{fresh_mailbox, left_quiet, none_has, none_there, not_both, desk_begun, fresh_visible, own_begun, visible_begun}, MadePlaces.none_summed}}
 use Rattle.exec_steps.specs.Together.{StandTogether, all_have, callers_have}
 use Rattle.exec_core.{proofs.{Beginning.{config_sound, first_sound, free_caller, homes_begun, InRange, shards_of, may_begin, map_replicate, replicated}, Lifting.playing_by}, specs.{Firsts.{AllBegin, IsFirst, IsRoot}, Lift.{Stands, IsReady, IsPlanOf, Shows, code_of_root, playing, views}, declared.executor.Core.Core}}
@@ -59,66 +59,61 @@ at_home n index number some = absurd (some (ap (λ xs. at_number xs number) (uns
 worker_at : (c : Configuration) (rs : List Runnable) (ws : List Worker) → AllBegin c rs ws → (i : ℕ) (w : Worker) → slice_get ws i ≡ Some w → (j : ℕ) × (r : Runnable) × Begins c (Pool j) j j r 0 w
 worker_at = grind arith
 
-module _ {B : Type 0} where
-  -- no runnable is anywhere
-  stock_none : (t : ℕ) (s : Shared B) → ((j : ℕ) (chair : Chair) → slice_get s.seats.items j ≡ Some chair → IsFreshSeat true chair) → s.global.values ≡ [] → stock t s ≡ 0
+module _ {B : Type 0} (c : Configuration) (roots : List B) (s : Shared B) (rs : List Runnable) (first : IsFirst c roots s rs) where
+  -- each task is a root; and no runnable is anywhere, and no task in the set
+  no_ordinary : (t : ℕ) (slot : TaskSlot B) → slice_get s.tasks.items t ≡ Some slot → slot.home ≡ None → ⊥
+  no_ordinary t slot there home = not_both slot.home t home (ap (λ y. y.home) (first.rooted.root t slot there).2.is)
+
+  stock_none : (t : ℕ) → stock t s ≡ 0
   stock_none = grind (arith, none_summed)
 
-  claimed_none : (x : Profile) (s : Shared B) → IsEmptyProfile x → claimed_count x s ≡ 0
-  claimed_none x s none = none_summed (λ j. one_if (x.published j && not (is_in s.idle.published j))) (range_with_len 0 s.config.workers) (λ i j there. rw (none.published j) refl)
+  nowhere : (t : ℕ) → in_set t s.set ≡ 0
+  nowhere t = ap (λ (z : Shared B). in_set t z.set) first.bare.parts ∙ in_none t (length s.set.shards)
 
-  -- nobody holds anything, and no message is under way
-  holding_begun : (c : Configuration) (roots : List B) (s : Shared B) (rs : List Runnable) (x : Profile) → IsFirst c roots s rs → IsEmptyProfile x
-      → IsHolding (hands_of x) s.config.workers (map holder_of s.tasks.items) (map thing_of s.requests.items) (map nap_of s.sleepers.items) (map box_of s.seats.items)
-  holding_begun = grind (arith, unmapped, none_there, false≢true, none_has, not_both)
+  home_begun : AreAtHome s.set.shards
+  home_begun = subst AreAtHome (sym (ap (λ (z : Shared B). z.set.shards) first.bare.parts)) (at_home (length s.set.shards))
 
-  whole_begun : (c : Configuration) (roots : List B) (s : Shared B) (rs : List Runnable) (x : Profile) → InRange c → length roots ≡ c.workers → IsFirst c roots s rs → IsEmptyProfile x → IsWhole x s
-  whole_begun c roots s rs x range many first none =
-      let fresh = first.rooted.fresh in
-      let ordinary : (t : ℕ) (slot : TaskSlot B) → slice_get s.tasks.items t ≡ Some slot → slot.home ≡ None → ⊥ = λ t slot there home.
-      not_both slot.home t home (ap (λ y. y.home) (first.rooted.root t slot there).2.is) in
-      let idle : s.idle ≡ record { published = replicate 64 false; count = 0 } = ap (λ (z : Shared B). z.idle) first.bare.parts in
-      let set : s.set ≡ record { shards = replicate (length s.set.shards) []; closed = false; id = 1 } = ap (λ (z : Shared B). z.set) first.bare.parts in
-      let values : s.global.values ≡ [] = ap (λ (z : Shared B). z.global.values) first.bare.parts in
-      let nowhere : (t : ℕ) → in_set t s.set ≡ 0 = λ t. ap (in_set t) set ∙ in_none t (length s.set.shards) in
-      let no_duty : (j t : ℕ) → (x.drops_by j).removes ≡ Some t → ⊥ = λ j t is. not_both (x.drops_by j).removes t (ap (λ (d : Drops). d.removes) (none.drops_by j)) is in
-      record {
-        runnables = λ t slot there home. absurd (ordinary t slot there home);
-        polls = λ t slot there home. absurd (ordinary t slot there home);
-        claims = λ j chair there. none.claims j ∙ sym (ap (λ q. one_if (not (q.gap == 0))) (fresh j chair there).queue);
-        counts = omega (arith, none.counts, claimed_none x s none, ap (λ k. k.count) idle);
-        bits = λ j h. absurd (false≢true (sym (unset false 64 j) ∙ ap (λ k. is_in k.published j) (sym idle) ∙ h));
-        set = ap (λ k. length k.published) idle;
-        queued_here = λ j chair r there has. absurd (none_has [] r refl (subst (λ q. Contains (q.values ++ q.held) r) (fresh j chair there).queue has));
-        queued_there = λ r has. absurd (none_has [] r refl (subst (λ vs. Contains vs r) values has));
-        places = λ opened. omega (arith, first.bare.places, first.rooted.tasks_many);
-        made = λ t past. (omega (arith, none.runnables t, stock_none t s fresh values), none.polls t);
-        unclaimed = λ j past. none.claims j;
-        in_pool = λ j chair there.
-            let within = slice_get_within s.seats.items j chair there in
-            let seats = first.rooted.seats_many ∙ many in
-            let config : s.config.workers ≡ c.workers = ap (λ (z : Shared B). z.config.workers) first.bare.parts in
-            (fresh j chair there).pool_is ∙ sym (lt-ltb j s.config.workers (omega (arith, within, seats, config)));
-        gates = record {
-          passes = λ j file is. absurd (not_both (x.drops_by j).passes file (ap (λ (d : Drops). d.passes) (none.drops_by j)) is);
-          joins = λ j k is. absurd (not_both (x.drops_by j).joins k (ap (λ (d : Drops). d.joins) (none.drops_by j)) is);
-        };
-        holding = holding_begun c roots s rs x first none;
-        pool = record {
-          live = λ t slot there home. absurd (ordinary t slot there home);
-          home = subst (λ xs. AreAtHome xs) (sym (ap (λ k. k.shards) set)) (at_home (length s.set.shards));
-          only = λ t some. absurd (omega (arith, some, none.clears t, nowhere t));
-          who_polls = λ t slot there home. absurd (ordinary t slot there home);
-          who_clears = λ t some. absurd (omega (arith, some, none.clears t));
-          clear_shut = λ t slot there home. absurd (ordinary t slot there home);
-          removes = λ j t is. absurd (no_duty j t is);
-          alone = λ i j t is also. absurd (no_duty i t is);
-          drained = λ j chair there gone. absurd (false≢true (sym (fresh j chair there).left ∙ gone));
-          mail = λ j chair there. fresh_mailbox true chair (fresh j chair there);
-          shut = λ j chair there pool h. absurd (false≢true (sym (ap (λ y. y.closed) (fresh j chair there).inbox) ∙ h));
-        };
-      }
+  module _ (x : Profile) (none : IsEmptyProfile x) where
+    claimed_none : claimed_count x s ≡ 0
+    claimed_none = none_summed (λ j. one_if (x.published j && not (is_in s.idle.published j))) (range_with_len 0 s.config.workers) (λ i j there. rw (none.published j) refl)
 
+    -- nobody holds anything, and no message is under way
+    holding_begun : IsHolding (hands_of x) s.config.workers (map holder_of s.tasks.items) (map thing_of s.requests.items) (map nap_of s.sleepers.items) (map box_of s.seats.items)
+    holding_begun = grind (arith, unmapped, none_there, false≢true, none_has, not_both)
+
+    pool_begun : IsPool (duties_of x) s.tasks.items s.set s.seats.items
+    pool_begun = grind (arith, no_ordinary, nowhere, home_begun, not_both, fresh_mailbox, false≢true)
+
+    gates_begun : HaveGates x.drops_by s.opens s.requests.items
+    gates_begun = grind (arith, not_both)
+
+    whole_begun : InRange c → length roots ≡ c.workers → IsWhole x s
+    whole_begun range many =
+        let fresh = first.rooted.fresh in
+        let idle : s.idle ≡ record { published = replicate 64 false; count = 0 } = ap (λ (z : Shared B). z.idle) first.bare.parts in
+        record {
+          runnables = λ t slot there home. absurd (no_ordinary t slot there home);
+          polls = λ t slot there home. absurd (no_ordinary t slot there home);
+          claims = λ j chair there. none.claims j ∙ sym (ap (λ q. one_if (not (q.gap == 0))) (fresh j chair there).queue);
+          counts = omega (arith, none.counts, claimed_none, ap (λ k. k.count) idle);
+          bits = λ j h. absurd (false≢true (sym (unset false 64 j) ∙ ap (λ k. is_in k.published j) (sym idle) ∙ h));
+          set = ap (λ k. length k.published) idle;
+          queued_here = λ j chair r there has. absurd (none_has [] r refl (subst (λ q. Contains (q.values ++ q.held) r) (fresh j chair there).queue has));
+          queued_there = λ r has. absurd (none_has [] r refl (subst (λ (z : Shared B). Contains z.global.values r) first.bare.parts has));
+          places = λ opened. omega (arith, first.bare.places, first.rooted.tasks_many);
+          made = λ t past. (omega (arith, none.runnables t, stock_none t), none.polls t);
+          unclaimed = λ j past. none.claims j;
+          in_pool = λ j chair there.
+              let within = slice_get_within s.seats.items j chair there in
+              let seats = first.rooted.seats_many ∙ many in
+              let config : s.config.workers ≡ c.workers = ap (λ (z : Shared B). z.config.workers) first.bare.parts in
+              (fresh j chair there).pool_is ∙ sym (lt-ltb j s.config.workers (omega (arith, within, seats, config)));
+          gates = gates_begun;
+          holding = holding_begun;
+          pool = pool_begun;
+        }
+
+module _ {B : Type 0} where
   -- ALL STAND
 
   call_sound : (c : Configuration) (roots : List B) (s : Shared B) (rs : List Runnable) → InRange c → length roots ≡ c.workers → IsFirst c roots s rs → CallSound free_caller s
@@ -152,10 +147,8 @@ module _ {B : Type 0} where
                   let it = begin.each i w there in
                   (ap (λ v. v.index) it.2.parts, first_sound c roots s rs range many first i w it.0 it.1 it.2);
               calls = λ j x there. subst (λ y. CallSound y s) (replicated 16 j free_caller x there) (call_sound c roots s rs range many first);
-              whole = whole_begun c roots s rs (all_have ws (replicate 16 free_caller)) range many first (all_nothing c ws (replicate 16 free_caller) (worker_at c rs ws begin) (callers_nothing 16));
+              whole = whole_begun c roots s rs first (all_have ws (replicate 16 free_caller)) (all_nothing c ws (replicate 16 free_caller) (worker_at c rs ws begin) (callers_nothing 16)) range many;
             });
-        owned = λ k r there. absurd (none_there s.requests.items k r first.bare.requests there);
-        asleep = λ k z there. absurd (none_there s.sleepers.items k z first.bare.sleepers there);
       }
 
 -- LISTS, from what is in each place
@@ -193,11 +186,10 @@ from_fresh : {X : Type 0} (y : X) (see : List Visible → List Chair → List X)
     → (vs : List Visible) (seats : List Chair) → length vs ≡ length seats → ((i : ℕ) (v : Visible) → slice_get vs i ≡ Some v → v ≡ fresh_visible) → ((i : ℕ) (chair : Chair) → slice_get seats i ≡ Some chair → IsFreshSeat true chair)
     → see vs seats ≡ replicate (length seats) y
 from_fresh y see none one [] [] many each fresh = none
-from_fresh y see none one [] (chair ∷ chairs) many each fresh = absurd (omega (arith, many))
-from_fresh y see none one (v ∷ vs) [] many each fresh = absurd (omega (arith, many))
 from_fresh y see none one (v ∷ vs) (chair ∷ chairs) many each fresh =
     ap (λ x. see (x ∷ vs) (chair ∷ chairs)) (each 0 v refl) ∙ one chair vs chairs (fresh 0 chair refl)
     ∙ ap (λ xs. y ∷ xs) (from_fresh y see none one vs chairs (omega (arith, many)) (λ i x there. each (suc i) x there) (λ i x there. fresh (suc i) x there))
+from_fresh y see none one vs seats many each fresh = absurd (omega (arith, many))
 
 -- what is seen in each place is fresh
 views_fresh : (c : Configuration) (ws : List Worker) → InRange c → ((i : ℕ) (w : Worker) → slice_get ws i ≡ Some w → (j : ℕ) × (r : Runnable) × Begins c (Pool j) j j r 0 w) → (i : ℕ) (v : Visible) → slice_get (map visible ws) i ≡ Some v → v ≡ fresh_visible

@@ -1,7 +1,6 @@
 -- What a configuration says, and what the abstract machine is told of it.
 use Rattle.std.specs.Prelude.{ℕ}
-use Rattle.exec_machine.specs.declared.config.Configuration.{Configuration}
-use Rattle.exec_core.specs.declared.config.Config.{Config}
+use Rattle.exec_core.specs.{Words.Configuration, declared.config.Config.Config}
 
 -- two workers, a ring of 1024 and a tick of 5 ms, 10 s for a connect and 60 s for reads and writes
 abbrev pub usual_config : Config
@@ -25,13 +24,7 @@ configuration_of c iterations files sockets =
       tick = c.ring_config.timeout_wheel_tick;
       connect = c.connect_timeout;
       rw = c.read_write_timeout;
-      spin =
-          record {
-            budget = c.idle_spinner.budget_us;
-            most = c.idle_spinner.max_budget_us;
-            quick = c.idle_spinner.quick_wake_us;
-            iterations = iterations;
-          };
+      spin = record { budget = c.idle_spinner.budget_us; most = c.idle_spinner.max_budget_us; quick = c.idle_spinner.quick_wake_us; iterations = iterations };
       files = files;
       sockets = sockets;
     }

@@ -1,18 +1,13 @@
 -- What the worked examples look at: requests of open 1, each in a phase of its own; and a worker with one task.
-use Rattle.std.specs.Prelude.{ℕ, true, false, List, [], ◌∷◌, Option, Some}
-use Rattle.exec_outcomes.specs.declared.outcome.Kind.{Kind}
-use Rattle.exec_machine.specs.{declared.state.{Request.Request, RequestPhase.RequestPhase, TaskPhase.TaskPhase}, Examples.usual, World.{Task, no_operation, no_request, no_task}}
-use Rattle.exec_machine.specs.declared.config.ScriptWord.TheVariants as word
-use Rattle.exec_moves.specs.{Plays.{Playing, first_desk, first_playing}, State.{Desk, no_queue}}
-use Rattle.exec_moves.specs.declared.place.InPoll.TheVariants as poll
-use Rattle.exec_moves.specs.declared.place.Place.TheVariants as at
+use Rattle.std.specs.Prelude.{List, Option, Some, [], false, true, ℕ, ◌∷◌}
+use Rattle.exec_core.specs.Words.{Kind, ScriptWord, Request, RequestPhase, TaskPhase, usual, Task, no_operation, no_request, no_task, InPoll, Place, Playing, first_desk, first_playing, Desk, no_queue}
 
 abbrev pub of_open : Kind → RequestPhase → Request
 of_open kind phase = record no_request { operation = record no_operation { kind = kind; target = 1 }; phase = phase }
 
 -- a worker that begins
 abbrev pub begun : Playing
-begun = first_playing (record { config = usual; scripts = []; root = word.End ∷ [] })
+begun = first_playing (record { config = usual; scripts = []; root = ScriptWord.End ∷ [] })
 
 -- task zero, the root of this worker or an ordinary one
 abbrev pub task_zero : Option ℕ → TaskPhase → Task
@@ -39,4 +34,4 @@ abbrev pub flagged : Desk → Desk
 flagged desk = record desk { root_ready = true }
 
 abbrev pub holding : Desk
-holding = record bare_desk { place = at.Poll 0 poll.BeginPoll; hand = Some 0 }
+holding = record bare_desk { place = Place.Poll 0 InPoll.BeginPoll; hand = Some 0 }

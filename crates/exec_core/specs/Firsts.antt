@@ -1,25 +1,12 @@
 -- The first state of an executor: the root of each worker is to be polled.
-use Rattle.std.specs.Prelude.{◌≡◌, ℕ, ◌≤◌, true, false, List, [], ◌∷◌, ◌++◌, length, replicate, slice_get, Some}
-use Rattle.exec_task.specs.{Phases.runnable_of, TaskSet.IsShardCount, declared.runnable.Runnable.Runnable}
-use Rattle.exec_machine.specs.declared.config.Configuration.{Configuration}
-use Rattle.exec_parts.specs.{declared.parts.{role.Role.TheVariants.Pool, seat.Seat.Seat as Chair, shared.Shared.Shared, task_slot.TaskSlot.TaskSlot, worker.Worker.Worker}, Dedicated.{Begins, root_slot}, Firsts.shared_of, Records.IsFreshSeat}
+use Rattle.std.specs.Prelude.{List, Some, [], false, length, replicate, slice_get, true, ℕ, ◌≡◌, ◌≤◌}
+use Rattle.exec_core.specs.Words.{runnable_of, IsShardCount, Runnable, Configuration, Pool, Chair, Shared, TaskSlot, Worker, Begins, root_slot, shared_of, IsFreshSeat}
 
 module _ {B : Type 0} where
   -- the slot of the root of worker i, which has this body and is to be polled
   pub record IsRoot (i : ℕ) (body : B) (slot : TaskSlot B) : Type 0 where
     pub is : slot ≡ root_slot (record { 0 = i }) 1 i body slot
     pub held : slot.held.items ≡ []
-
-  -- a seat and a root with this body were added, and this is the root's runnable
-  pub record AddsRoot (body : B) (s s' : Shared B) (r : Runnable) : Type 0 where
-    pub chair : Chair
-    pub seats : s'.seats.items ≡ s.seats.items ++ chair ∷ []
-    pub fresh : IsFreshSeat true chair
-    pub slot : TaskSlot B
-    pub tasks : s'.tasks.items ≡ s.tasks.items ++ slot ∷ []
-    pub root : IsRoot (length s.tasks.items) body slot
-    pub runnable : r ≡ runnable_of slot.cell
-    pub kept : s' ≡ record s { seats = s'.seats; tasks = s'.tasks }
 
   -- a seat, a root and a runnable for each of these bodies
   pub record HasRoots (roots : List B) (seats : List Chair) (tasks : List (TaskSlot B)) (rs : List Runnable) : Type 0 where

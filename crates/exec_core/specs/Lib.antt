@@ -1,3 +1,4 @@
+pub mod Words
 pub mod Configs
 pub mod Ranges
 pub mod Firsts

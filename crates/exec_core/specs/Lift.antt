@@ -1,18 +1,6 @@
 -- From a step of one party to a step of the whole.
-use Rattle.std.specs.Prelude.{◌≡◌, ℕ, zero, suc, ◌<◌, Bool, true, false, not, ◌+◌, ◌&&◌, ◌||◌, nat_le, nat_lt, List, [], ◌++◌, length, map, option_to_list, slice_get, slice_set, Option, Some, None}
-use Rattle.std.specs.List.{list_all}
-use Rattle.exec_base.specs.declared.limits.TheConstants.{LAST_MOMENT}
-use Rattle.exec_outcomes.specs.{declared.outcome.OpResult.OpResult, Lawful.{window_of, is_lawful}}
-use Rattle.exec_task.specs.declared.body.Said.{Said, TheVariants.Start}
-use Rattle.exec_machine.specs.{declared.{config.Configuration.Configuration, event.{Event.Event, Line.Line, StepResult.TheVariants.Did}, state.Code.{Code, TheVariants.{Root, Waits}}, step.Action.Action}, Callers.after_landing, Choice.Choice, World.{World, Common}, Requests.{asked_of, cursor_of}, Tests.{is_awake, has_ended, is_flying}, Run.{Follows, after_event}, Progress.Plan}
-use Rattle.exec_machine.specs.declared.step.Action.TheVariants as action
-use Rattle.exec_moves.specs.{State.{Desk, WakePoll, wake_poll_of, passed}, Thing.set_wake_poll, Plays.{Played, Playing, by_action, by_step, last_told}}
-use Rattle.exec_parts.specs.{Records.IsCountable, Scripts.IsBorn, Spots.Spot, View.{Views, Visible, own_of, visible, with_view, desk_of, common_of, things_with}, declared.parts.{record.Record.Record, seat.Seat.Seat as Chair, sleeping.SleeperRecord.SleeperRecord, worker.Worker.Worker}}
-use Rattle.exec_invariants.specs.{Acting.{PerformsAll, StepsWith}, Sound.Sound, Works.{Beside, Suits, Same}}
-use Rattle.exec_polling.specs.{Calling.{CallBeside, CallSound, CallWorks, CallSuits, call_of, desk_of_caller, is_free}, declared.caller.Caller.Caller}
-use Rattle.exec_steps.specs.Together.{StandTogether}
-use Rattle.exec_progress.specs.Paced.{IsPaced}
-use Rattle.exec_core.specs.{Steady.{IsSteady, IsSteadyThere, KeepsOn}, declared.executor.Core.Core}
+use Rattle.std.specs.{List.list_all, Prelude.{Bool, List, None, Option, Some, [], false, length, map, nat_le, nat_lt, not, option_to_list, slice_get, slice_set, suc, true, zero, ℕ, ◌&&◌, ◌++◌, ◌+◌, ◌<◌, ◌||◌, ◌≡◌}}
+use Rattle.exec_core.specs.{Words.{LAST_MOMENT, OpResult, window_of, is_lawful, Said, Start, Configuration, Event, Line, Did, Code, Root, Waits, Action, after_landing, Choice, World, Common, asked_of, cursor_of, is_awake, has_ended, is_flying, Follows, after_event, Plan, Desk, WakePoll, wake_poll_of, passed, set_wake_poll, Played, Playing, by_action, by_step, last_told, IsCountable, IsBorn, Spot, Views, Visible, own_of, visible, with_view, desk_of, common_of, things_with, Record, Chair, Worker, PerformsAll, StepsWith, Sound, Beside, Suits, Same, CallBeside, CallSound, CallWorks, CallSuits, call_of, desk_of_caller, is_free, Caller, StandTogether, IsPaced}, Steady.{IsSteady, IsSteadyThere, KeepsOn}, declared.executor.Core.Core}
 
 -- WHICH STEPS MAY BE TAKEN, by the seats, the records and the callers
 
@@ -48,24 +36,22 @@ may_go_on_in (Some caller) = not (is_free caller.place)
 
 module _ {B : Type 0} where
   abbrev pub may_take : Core B → Action → Bool
-  may_take c (action.Work i) = may_work_in c.shared.seats.items (slice_get c.shared.seats.items i)
-  may_take c (action.Clock d) = nat_le (c.shared.clock + d) LAST_MOMENT
-  may_take c (action.Land r n) = may_land_in (slice_get c.shared.requests.items r) n
-  may_take c (action.SetBusy i) = has_begun (slice_get c.shared.seats.items i)
-  may_take c (action.EndPoll i) = has_begun (slice_get c.shared.seats.items i)
-  may_take c (action.Stir i) = sleeps (slice_get c.shared.seats.items i)
-  may_take c (action.Peer l) = nat_lt l (length c.shared.listeners.items)
-  may_take c (action.Spawn j k) = may_call_in (slice_get c.callers.items j)
-  may_take c (action.Wake j t) = may_call_in (slice_get c.callers.items j) && nat_lt t (length c.shared.tasks.items)
-  may_take c (action.GoOn j) = may_go_on_in (slice_get c.callers.items j)
+  may_take c (Action.Work i) = may_work_in c.shared.seats.items (slice_get c.shared.seats.items i)
+  may_take c (Action.Clock d) = nat_le (c.shared.clock + d) LAST_MOMENT
+  may_take c (Action.Land r n) = may_land_in (slice_get c.shared.requests.items r) n
+  may_take c (Action.SetBusy i) = has_begun (slice_get c.shared.seats.items i)
+  may_take c (Action.EndPoll i) = has_begun (slice_get c.shared.seats.items i)
+  may_take c (Action.Stir i) = sleeps (slice_get c.shared.seats.items i)
+  may_take c (Action.Peer l) = nat_lt l (length c.shared.listeners.items)
+  may_take c (Action.Spawn j k) = may_call_in (slice_get c.callers.items j)
+  may_take c (Action.Wake j t) = may_call_in (slice_get c.callers.items j) && nat_lt t (length c.shared.tasks.items)
+  may_take c (Action.GoOn j) = may_go_on_in (slice_get c.callers.items j)
 
-  -- There are workers and callers, and they stand together; each request and each sleeper is one of a worker.
+  -- There are workers and callers, and they stand together.
   pub record Stands (c : Core B) : Type 0 where
     pub some : 0 < length c.workers.items
     pub callers : length c.callers.items ≡ 16
     pub together : StandTogether c.workers.items c.callers.items c.shared
-    pub owned : (k : ℕ) (r : Record) → slice_get c.shared.requests.items k ≡ Some r → r.shown.worker < length c.workers.items
-    pub asleep : (k : ℕ) (z : SleeperRecord) → slice_get c.shared.sleepers.items k ≡ Some z → z.shown.worker < length c.workers.items
 
   -- Which steps may be taken can be asked of it, also once it is spent: it has as many seats as workers, and the bytes of each
   -- direct read can be counted.
@@ -93,9 +79,9 @@ module _ {B : Type 0} where
 
 -- it is a step of an outside caller
 abbrev pub is_call : Action → Bool
-is_call (action.Spawn j k) = true
-is_call (action.Wake j t) = true
-is_call (action.GoOn j) = true
+is_call (Action.Spawn j k) = true
+is_call (Action.Wake j t) = true
+is_call (Action.GoOn j) = true
 is_call _ = false
 
 -- where the script of the root of worker i begins
@@ -204,7 +190,7 @@ module _ {B L : Type 0} (left : B → L) (runs : L → Plan → Option ℕ → T
 
   -- the body that a step carries: that of the task which a caller spawns
   abbrev pub Carries : (L → ℕ) → Plan → Action → Option B → Type 0
-  Carries name p (action.Spawn j k) body = (b : B) × (body ≡ Some b) × (name (left b) ≡ k) × IsBorn runs holds spot p k (left b)
+  Carries name p (Action.Spawn j k) body = (b : B) × (body ≡ Some b) × (name (left b) ≡ k) × IsBorn runs holds spot p k (left b)
   Carries name p a body = Unit {0}
 
   -- The configuration stays, and what the tasks perform; a task that a caller made performs what it carried.

@@ -1,10 +1,7 @@
 -- NO TASK IS QUEUED TWICE, AND ONE THAT IS TO BE POLLED IS QUEUED: how many runnables each task has, and how many polls, in a state of an
 -- executor of several workers.
-use Rattle.std.specs.Prelude.{◌≡◌, ℕ, ◌+◌, ◌≤◌, ◌==◌, ◌||◌, Bool, false, List, ◌++◌, count_by, sum_by, slice_get, Some, None, option_to_list}
-use Rattle.exec_machine.specs.{declared.state.TaskPhase.TaskPhase, World.Task}
-use Rattle.exec_machine.specs.declared.state.TaskPhase.TheVariants as phase
-use Rattle.exec_moves.specs.{Plays.Playing, Seen.polls_at, State.Desk}
-use Rattle.exec_invariants.specs.Places.{begins_at, is_number, one_if}
+use Rattle.std.specs.Prelude.{Bool, List, None, Some, count_by, false, option_to_list, slice_get, sum_by, ℕ, ◌++◌, ◌+◌, ◌==◌, ◌||◌, ◌≡◌, ◌≤◌}
+use Rattle.exec_core.specs.Words.{TaskPhase, Task, Playing, polls_at, Desk, begins_at, is_number, one_if}
 
 -- how often task t is among these
 abbrev pub times : ℕ → List ℕ → ℕ
@@ -25,11 +22,11 @@ polls_of t x = sum_by (λ d. one_if (is_number (polls_at d.place) t)) x.desks
 -- worker polls it; one that waits has neither. One that is over may have left a runnable, which is let go, once they are
 -- closed.
 abbrev pub IsOnce : Bool → TaskPhase → ℕ → ℕ → Type 0
-IsOnce gone phase.Idle runnables polls = (runnables ≡ 0) × (polls ≡ 0)
-IsOnce gone phase.Queued runnables polls = (runnables ≤ 1) × (gone ≡ false → runnables ≡ 1) × (polls ≡ 0)
-IsOnce gone (phase.Running i) runnables polls = (runnables ≡ 0) × (polls ≡ 1)
-IsOnce gone (phase.Noted i) runnables polls = (runnables ≡ 0) × (polls ≡ 1)
-IsOnce gone phase.Done runnables polls = (runnables ≤ 1) × (gone ≡ false → runnables ≡ 0) × (polls ≡ 0)
+IsOnce gone TaskPhase.Idle runnables polls = (runnables ≡ 0) × (polls ≡ 0)
+IsOnce gone TaskPhase.Queued runnables polls = (runnables ≤ 1) × (gone ≡ false → runnables ≡ 1) × (polls ≡ 0)
+IsOnce gone (TaskPhase.Running i) runnables polls = (runnables ≡ 0) × (polls ≡ 1)
+IsOnce gone (TaskPhase.Noted i) runnables polls = (runnables ≡ 0) × (polls ≡ 1)
+IsOnce gone TaskPhase.Done runnables polls = (runnables ≤ 1) × (gone ≡ false → runnables ≡ 0) × (polls ≡ 0)
 
 -- A ROOT, at the desk of its worker: its runnable is in the root flag or in the hand, and there just where the root is polled
 -- next. No runnable of it is anywhere else, and nobody else polls it.

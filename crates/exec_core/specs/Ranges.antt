@@ -1,7 +1,6 @@
 -- The ranges of a configuration.
-use Rattle.std.specs.Prelude.{Bool, ◌-◌, ◌^◌, ◌&&◌, nat_le}
-use Rattle.exec_base.specs.declared.limits.TheConstants.{LONGEST_TIMEOUT}
-use Rattle.exec_machine.specs.{declared.config.Configuration.Configuration, Ranges.ticks_needed}
+use Rattle.std.specs.Prelude.{Bool, nat_le, ◌&&◌, ◌-◌, ◌^◌}
+use Rattle.exec_core.specs.Words.{LONGEST_TIMEOUT, Configuration, ticks_needed}
 
 abbrev pub is_in_range : Configuration → Bool
 is_in_range c =

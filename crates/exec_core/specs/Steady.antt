@@ -1,13 +1,6 @@
 -- WHAT EACH STATE OF AN EXECUTOR HAS, so that no wake is lost and nobody sleeps on work: it holds of the first state, and each step keeps it.
-use Rattle.std.specs.Prelude.{◌≡◌, ◌≤◌, ◌<◌, ◌^◌, ℕ, suc, true}
-use Rattle.exec_machine.specs.{declared.{config.Configuration.Configuration, step.Action.Action}, Progress.{IsRightlyAsleep, is_quiet_step, quiet_bound}, Tests.is_open, World.seat_of}
-use Rattle.exec_machine.specs.declared.step.Action.TheVariants as action
-use Rattle.exec_moves.specs.Plays.{Playing, by_step}
-use Rattle.exec_progress.specs.{Left.left_to, Paced.IsPaced}
-use Rattle.exec_books.specs.Booked.{IsBooked}
-use Rattle.exec_rest.specs.{AtRest.{AreBare, AreFresh, IsShut, RestsWell}, Posted.IsPosted, Rested.IsRestful}
-use Rattle.exec_settled.specs.{Awaited.IsAwaited, Parked.{NobodySleepsOnWork, NoneIsForgotten}, Permits.IsPermitted, Settled.IsSettled}
-use Rattle.exec_shutdown.specs.{Shutdown.ShutsDown, Stopping.StopsAll}
+use Rattle.std.specs.Prelude.{suc, true, ℕ, ◌<◌, ◌^◌, ◌≡◌, ◌≤◌}
+use Rattle.exec_core.specs.Words.{Configuration, Action, IsRightlyAsleep, is_quiet_step, quiet_bound, is_open, seat_of, Playing, by_step, left_to, IsPaced, IsBooked, AreBare, AreFresh, IsShut, RestsWell, IsPosted, IsRestful, IsAwaited, NobodySleepsOnWork, NoneIsForgotten, IsPermitted, IsSettled, ShutsDown, StopsAll}
 
 pub record IsSteady (c : Configuration) (x : Playing) : Type 0 where
   -- wakes and messages
@@ -47,4 +40,4 @@ pub record IsPacedThere (n : ℕ) (c : Configuration) (x : Playing) : Type 0 whe
 -- What one more step keeps of that; and a quiet step of a worker, while nobody closes, costs some of what it has left.
 pub record KeepsOn (n : ℕ) (c : Configuration) (x : Playing) (a : Action) : Type 0 where
   pub there : IsPacedThere (suc n) c (by_step c x a).next
-  pub falls : n ≤ 2 ^ 32 → (i : ℕ) → a ≡ action.Work i → is_quiet_step x.world (by_step c x a).told.0.said ≡ true → left_to c (by_step c x a).next i < left_to c x i
+  pub falls : n ≤ 2 ^ 32 → (i : ℕ) → a ≡ Action.Work i → is_quiet_step x.world (by_step c x a).told.0.said ≡ true → left_to c (by_step c x a).next i < left_to c x i

@@ -1,9 +1,6 @@
 -- DURABLE REQUESTS TAKE TURNS, AND WHAT CHANGES A FILE IS NEVER CANCELLED: of the requests in a state of an executor of several workers.
-use Rattle.std.specs.Prelude.{◌≡◌, ℕ, ◌&&◌, ◌||◌, Bool, true, false, not, List, slice_get, Some}
-use Rattle.exec_outcomes.specs.Accounts.{is_durable}
-use Rattle.exec_machine.specs.{declared.state.Request.Request, Tests.{is_gated, is_kept, is_resolved}}
-use Rattle.exec_moves.specs.Plays.{Playing}
-use Rattle.exec_core.specs.Once.{QueuesOnce}
+use Rattle.std.specs.Prelude.{Bool, List, Some, false, not, slice_get, true, ℕ, ◌&&◌, ◌||◌, ◌≡◌}
+use Rattle.exec_core.specs.{Words.{is_durable, Request, is_gated, is_kept, is_resolved, Playing}, Once.QueuesOnce}
 
 -- A durable request that neither waits for the permit of its open nor is over has the permit. Only then it may have an operation.
 abbrev pub has_permit : Request → Bool

@@ -5,23 +5,6 @@ ghost use Rattle.exec_core.specs.Configs.{usual_config};
 
 use exec_base::spinner::SpinnerConfig;
 
-/// How many operations the default ring holds.
-const DEFAULT_RING: u32 = 128;
-/// The default tick of a timeout wheel, in nanoseconds: 5 milliseconds.
-const DEFAULT_TICK: u64 = 5_000_000;
-/// How many workers a pool has by default.
-const DEFAULT_WORKERS: usize = 2;
-/// Every so many picks a worker looks at the global queue first, by default.
-const DEFAULT_INTERVAL: u32 = 31;
-/// How many operations the ring of a worker holds by default.
-const DEFAULT_POOL_RING: u32 = 1024;
-/// How long a connect may take by default, in nanoseconds: 10 seconds.
-const DEFAULT_CONNECT: u64 = 10_000_000_000;
-/// How long a read or a write of a socket may take by default, in nanoseconds: 60 seconds.
-const DEFAULT_READ_WRITE: u64 = 60_000_000_000;
-/// How many bytes a stream reads ahead by default.
-const DEFAULT_READ_BUFFER: usize = 65_536;
-
 /// How the ring of a worker is set up. Ports `RingConfig`.
 #[derive(Clone, Debug, Drop)]
 pub struct RingConfig {
@@ -38,8 +21,8 @@ impl Default for RingConfig {
 
     fn default() -> Self {
         RingConfig {
-            size: DEFAULT_RING,
-            timeout_wheel_tick: DEFAULT_TICK,
+            size: 128,
+            timeout_wheel_tick: 5_000_000,
         }
     }
 }
@@ -74,16 +57,16 @@ impl Config {
         ensures { result ≡ usual_config }
     {
         Config {
-            worker_threads: DEFAULT_WORKERS,
-            global_queue_interval: DEFAULT_INTERVAL,
+            worker_threads: 2,
+            global_queue_interval: 31,
             ring_config: RingConfig {
-                size: DEFAULT_POOL_RING,
-                timeout_wheel_tick: DEFAULT_TICK,
+                size: 1024,
+                timeout_wheel_tick: 5_000_000,
             },
             idle_spinner: SpinnerConfig::default(),
-            connect_timeout: DEFAULT_CONNECT,
-            read_write_timeout: DEFAULT_READ_WRITE,
-            read_buffer_size: DEFAULT_READ_BUFFER,
+            connect_timeout: 10_000_000_000,
+            read_write_timeout: 60_000_000_000,
+            read_buffer_size: 65_536,
         }
     }
 

@@ -7,7 +7,7 @@ ghost use Rattle.exec_machine.specs.{Callers.is_enabled, Progress.Plan};
 ghost use Rattle.exec_moves.specs.Plays.{Playing, first_playing};
 ghost use Rattle.exec_parts.specs.declared.parts.worker.Worker.{Worker as Party};
 ghost use Rattle.exec_invariants.specs.{Acting.PerformsAll, Sound.Sound, Whole.{IsWhole, Profile}};
-ghost use Rattle.exec_core.specs.{Configs.configuration_of as configuration_told, Lift.{world, CanBeAsked, Stands, IsReady, Shows, Applies, Calls, Carries, Keeps, Takes, IsPlanOf, IsAsBefore, WorkerSteps, WorkerStays, Sees, EndsPoll, Lands, may_take, may_work_in, may_land_in, may_call_in, may_go_on_in, has_begun}, Ranges.is_in_range, Steady.{IsPacedThere, IsSteadyThere}};
+ghost use Rattle.exec_core.specs.{Configs.configuration_of as configuration_told, Lift.{world, CanBeAsked, Stands, IsReady, Shows, Applies, Calls, Carries, Keeps, Takes, IsPlanOf, IsAsBefore, WorkerSteps, WorkerStays, Sees, EndsPoll, Lands, may_take}, Ranges.is_in_range, Steady.{IsPacedThere, IsSteadyThere}};
 
 use crate::config::Config;
 use crate::setting_up::{configuration_of, first_shared, first_workers};
@@ -93,80 +93,35 @@ impl<B: Scripted + Drop> Core<B> {
     }
 
     /// The same, by what is shared.
+    #[tactic(auto, using(crate::proofs::Taking::item_there, crate::proofs::Taking::item_missing))]
     fn may_take(&self, action: Action) -> bool
         requires asked { CanBeAsked self.now }
         ensures { result ≡ may_take self.now action }
     {
+        let seats = &self.shared.seats;
+        let callers = &self.callers;
         match action {
-            Action::Work { worker } => self.may_work(worker),
-            Action::Clock { by } => match self.shared.clock.checked_add(by) {
-                Some(moment) => moment <= LAST_MOMENT,
-                None => false,
-            },
-            Action::Land { request, result } => self.may_land(request, result),
-            Action::Stir { worker } => match self.shared.seats.get(worker) {
-                Some(seat) => !seat.is_awake(),
-                None => false,
-            },
-            Action::SetBusy { worker } | Action::EndPoll { worker } => self.has_not_ended(worker),
+            // Who has left the pool is held at the shutdown barrier until all have.
+            Action::Work { worker } => seats.get(worker).is_some_and(|seat| {
+                seat.is_awake()
+                    && !seat.has_ended()
+                    && !(seat.pool && seat.left && !self.shared.all_left())
+            }),
+            Action::Clock { by } => self.shared.clock.saturating_add(by) <= LAST_MOMENT,
+            Action::Land { request, result } => {
+                let requests = &self.shared.requests;
+                requests.get(request).is_some_and(|it| it.may_land(result))
+            }
+            Action::Stir { worker } => seats.get(worker).is_some_and(|seat| !seat.is_awake()),
+            Action::SetBusy { worker } | Action::EndPoll { worker } => {
+                seats.get(worker).is_some_and(|seat| !seat.has_ended())
+            }
             Action::Peer { listener } => listener < self.shared.listeners.len(),
-            Action::Spawn { caller, .. } => self.is_free(caller),
-            Action::Wake { caller, task } => self.is_free(caller) && task < self.shared.tasks.len(),
-            Action::GoOn { caller } => self.is_calling(caller),
-        }
-    }
-
-    /// Whether the worker is awake, has not ended, and isn't held at the shutdown barrier.
-    fn may_work(&self, worker: usize) -> bool
-        ensures { result ≡ may_work_in self.now.shared.seats.items (slice_get self.now.shared.seats.items worker) }
-    {
-        match self.shared.seats.get(worker) {
-            Some(seat) => seat.is_awake()
-                && !seat.has_ended()
-                && !(seat.pool && seat.left && !self.shared.all_left()),
-            None => false,
-        }
-    }
-
-    /// Whether there is such a caller, and it has no call half done.
-    fn is_free(&self, caller: usize) -> bool
-        ensures { result ≡ may_call_in (slice_get self.now.callers.items caller) }
-    {
-        match self.callers.get(caller) {
-            Some(caller) => caller.is_free(),
-            None => false,
-        }
-    }
-
-    /// Whether there is such a caller, and it has a call half done.
-    fn is_calling(&self, caller: usize) -> bool
-        ensures { result ≡ may_go_on_in (slice_get self.now.callers.items caller) }
-    {
-        match self.callers.get(caller) {
-            Some(caller) => !caller.is_free(),
-            None => false,
-        }
-    }
-
-    /// Whether there is such a worker that has not ended.
-    fn has_not_ended(&self, worker: usize) -> bool
-        ensures { result ≡ has_begun (slice_get self.now.shared.seats.items worker) }
-    {
-        match self.shared.seats.get(worker) {
-            Some(seat) => !seat.has_ended(),
-            None => false,
-        }
-    }
-
-    /// Whether the kernel has the operation and may give this result.
-    #[tactic(auto, using(crate::proofs::Taking::item_there, crate::proofs::Taking::item_missing))]
-    fn may_land(&self, request: usize, given: OpResult) -> bool
-        requires asked { CanBeAsked self.now }
-        ensures { result ≡ may_land_in (slice_get self.now.shared.requests.items request) given }
-    {
-        match self.shared.requests.get(request) {
-            Some(record) => record.may_land(given),
-            None => false,
+            Action::Spawn { caller, .. } => callers.get(caller).is_some_and(|it| it.is_free()),
+            Action::Wake { caller, task } => {
+                callers.get(caller).is_some_and(|it| it.is_free()) && task < self.shared.tasks.len()
+            }
+            Action::GoOn { caller } => callers.get(caller).is_some_and(|it| !it.is_free()),
         }
     }
 
@@ -272,7 +227,7 @@ impl<B: Scripted + Drop> Core<B> {
     }
 
     /// A step of this worker, which may take one. Without memory for it the executor is spent.
-    #[tactic(auto, using(crate::proofs::Taking::worker_read))]
+    #[tactic(auto, using(crate::proofs::Taking::worker_read, crate::proofs::Lifting::owned, crate::proofs::Lifting::asleep))]
     fn work(&mut self, alloc: Global, worker: usize) -> Result<Event, AllocError>
         requires ready { (p : Plan) × IsReady B.left B.runs B.holds p self.old }
         requires enabled { may_take self.old (Action.Work worker) ≡ true }

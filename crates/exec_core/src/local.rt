@@ -4,7 +4,7 @@ ghost use Rattle.std.specs.Prelude.{◌≡◌, ◌<◌, ◌==◌, ◌&&◌, not,
 ghost use Rattle.exec_base.specs.Slab.{value_at};
 ghost use Rattle.exec_words.specs.Queue.{room_of, published};
 ghost use Rattle.exec_waiters.specs.{Told.{HasPlaces, Tells}, Events.told_by_orphan};
-ghost use Rattle.exec_driver.specs.{Driving.seen, Punctual.IsPunctual, Steps.{let_go, told_by_let_go}};
+ghost use Rattle.exec_driver.specs.{Punctual.IsPunctual, Steps.{let_go, told_by_let_go}};
 ghost use Rattle.exec_parts.specs.{View.driver_of, Roles.is_pool};
 
 use exec_driver::home::Home;
@@ -106,18 +106,7 @@ impl<'a> Local<'a> {
         ensures same_worker { self.new.worker.ghost_name ≡ self.old.worker.ghost_name }
         ensures tasks { self.new.tasks ≡ self.old.tasks }
     {
-        let_go_of(&mut self.worker.home, id);
+        let home = &mut self.worker.home;
+        home.driver.orphan(id, &mut home.deferred);
     }
-}
-
-/// Nobody waits for the request at home from now on. The caller must have made room for two in each list of what is to be
-/// told.
-fn let_go_of(home: &mut Home<SimRing, Reply, Reply>, id: WaiterId)
-    requires room { HasPlaces home.old.deferred 2 }
-    ensures let_go { seen home.new.driver ≡ let_go (seen home.old.driver) id }
-    ensures told { Tells home.old.deferred home.new.deferred (told_by_let_go (seen home.old.driver) id (told_by_orphan id.0 (value_at (seen home.old.driver).requests id.0))) }
-    ensures punctual { IsPunctual (seen home.old.driver) → IsPunctual (seen home.new.driver) }
-    ensures same { home.new ≡ record home.old { driver = home.new.driver; deferred = home.new.deferred } }
-{
-    home.driver.orphan(id, &mut home.deferred);
 }

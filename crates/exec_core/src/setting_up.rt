@@ -1,8 +1,7 @@
 //! The workers of a new executor, and what they share.
 
 ghost use Rattle.std.specs.Prelude.{◌≡◌, ◌<◌, ◌≤◌, true, length, IfOk};
-ghost use Rattle.exec_parts.specs.{Dedicated.Begins, declared.parts.role.Role.TheVariants.Pool};
-ghost use Rattle.exec_core.specs.{Configs.configuration_of as configuration_told, Firsts.{AddsRoot, AllBegin, IsFirst}, Ranges.is_in_range};
+ghost use Rattle.exec_core.specs.{Configs.configuration_of as configuration_told, Firsts.{AllBegin, IsFirst}, Ranges.is_in_range};
 
 use crate::config::Config;
 use exec_base::task_no::TaskNo;
@@ -62,38 +61,25 @@ pub(crate) fn first_shared<B: Scripted + Drop>(
     shared.global.reserve(alloc, roots.len())?;
     let mut runnables = Vec::with_capacity(alloc, roots.len())?;
     for root in roots {
-        let runnable = add_root(alloc, &mut shared, root)?;
+        // One more worker: its seat, and its root.
+        let number = shared.tasks.len();
+        shared.seats.push(Seat::new(alloc, true)?)?;
+        let (slot, runnable) = TaskSlot::new(
+            alloc,
+            TaskNo(number as u32),
+            shared.set.id(),
+            Some(number),
+            root,
+        );
+        shared.tasks.push(slot)?;
         runnables.push(runnable)?;
     }
     Ok((shared, runnables))
 }
 
-/// Adds the seat of one more worker, and its root with this body, and answers the root's runnable. `Err` only for want of
-/// memory. The caller must have fewer than 64 tasks, which are those of the first task set.
-fn add_root<B: Scripted + Drop>(
-    alloc: Global,
-    shared: &mut Shared<B>,
-    root: B,
-) -> Result<Runnable, AllocError>
-    requires few { length shared.old.tasks.items < 64 }
-    requires first { shared.old.set.id ≡ 1 }
-    ensures adds { IfOk result (AddsRoot root shared.old shared.new) }
-{
-    let number = shared.tasks.len();
-    shared.seats.push(Seat::new(alloc, true)?)?;
-    let (slot, runnable) = TaskSlot::new(
-        alloc,
-        TaskNo(number as u32),
-        shared.set.id(),
-        Some(number),
-        root,
-    );
-    shared.tasks.push(slot)?;
-    Ok(runnable)
-}
-
 /// The workers of the pool, whose roots are to be polled with these runnables. `Err` only for want of memory. The caller
 /// must have a configuration in its ranges, and at most 64 runnables.
+#[tactic(auto, using(crate::proofs::Beginning::may_begin, crate::proofs::Beginning::in_range))]
 pub(crate) fn first_workers(
     alloc: Global,
     configuration: &Configuration,
@@ -107,25 +93,8 @@ pub(crate) fn first_workers(
     let mut workers = Vec::with_capacity(alloc, runnables.len())?;
     for runnable in runnables {
         let index = workers.len();
-        workers.push(first_worker(alloc, configuration, index, runnable, store)?)?;
+        let role = Role::Pool(index as u32);
+        workers.push(Worker::begin(alloc, configuration, role, index, index, runnable, 0, store)?)?;
     }
     Ok(workers)
-}
-
-/// The worker of the pool of this number, whose root is to be polled with this runnable. `Err` only for want of memory. The
-/// caller must have a configuration in its ranges, and a number below 64.
-#[tactic(auto, using(crate::proofs::Beginning::may_begin, crate::proofs::Beginning::in_range))]
-fn first_worker(
-    alloc: Global,
-    configuration: &Configuration,
-    index: usize,
-    runnable: Runnable,
-    store: &mut Store,
-) -> Result<Worker, AllocError>
-    requires in_range { is_in_range configuration.now ≡ true }
-    requires few { index < 64 }
-    ensures begins { IfOk result (λ w. Begins configuration.now (Pool index) index index runnable 0 w) }
-{
-    let role = Role::Pool(index as u32);
-    Worker::begin(alloc, configuration, role, index, index, runnable, 0, store)
 }

@@ -1,13 +1,8 @@
 -- Each quiet step of a caller costs credit.
-use Rattle.std.proofs.Common.{◌≡◌, ℕ, ◌<◌, ◌≤◌, ◌==◌, Bool, true, false, List, [], ◌∷◌, Option, Some, None, if◌then◌else◌, refl, arith}
-use Rattle.std.proofs.lemmas.Bool.{false≢true}
-use Rattle.exec_words.specs.{Idle.{Idle, lowest_of}, Word.asks_signal, declared.{idle.WorkerSet.WorkerSet}}
-use Rattle.exec_machine.specs.{declared.{config.Configuration.Configuration, event.Event.Event}, Text.is_quiet, World.{Common, seat_of, task_of}}
-use Rattle.exec_machine.specs.declared.step.Action.TheVariants as action
-use Rattle.exec_moves.specs.{Call.{CallDesk, Called}, Claim.{same_bools}, Global.has_any, MoveOfCaller.{call_global, call_on, call_wake, move_of_caller}, Send.Posting, State.{Things, word_of}, declared.handing.CallPlace.CallPlace}
-use Rattle.exec_moves.specs.declared.handing.CallPlace.TheVariants as call
-use Rattle.exec_moves.specs.declared.handing.InGlobal.TheVariants as global
-use Rattle.exec_moves.specs.declared.handing.InSignal.TheVariants as signals
+use Rattle.std.proofs.{Common.{◌≡◌, ℕ, ◌<◌, ◌≤◌, ◌==◌, Bool, true, false, List, [], ◌∷◌, Option, Some, None, if◌then◌else◌, refl, arith}, lemmas.Bool.false≢true}
+use Rattle.exec_words.specs.{Idle.{Idle, lowest_of}, Word.asks_signal, declared.idle.WorkerSet.WorkerSet}
+use Rattle.exec_machine.specs.{declared.{config.Configuration.Configuration, event.Event.Event, step.Action.Action as action}, Text.is_quiet, World.{Common, seat_of, task_of}}
+use Rattle.exec_moves.specs.{Call.{CallDesk, Called}, Claim.same_bools, Global.has_any, MoveOfCaller.{call_global, call_on, call_wake, move_of_caller}, Send.Posting, State.{Things, word_of}, declared.handing.{CallPlace.{CallPlace, CallPlace as call}, InGlobal.InGlobal as global, InSignal.InSignal as signals}}
 use Rattle.exec_credit.specs.CallCredit.{call_credit, claim_worker, load_set, most_credit}
 
 pub same_self : (xs : List Bool) → same_bools xs xs ≡ true

@@ -1,8 +1,5 @@
 -- Where the next moment has come, something is due.
-use Rattle.std.proofs.Common.{◌≡◌, ℕ, ◌+◌, ◌≤◌, Bool, true, false, if◌then◌else◌, ◌==◌, ◌&&◌, ◌||◌, List, [], ◌∷◌, Option, Some, None, refl, ap, arith, inl, inr}
-use Rattle.std.proofs.lemmas.Bool.{false≢true, and_from, or_cases, or_left, or_right}
-use Rattle.std.specs.Prelude.{nat_le}
-use Rattle.std.specs.List.{list_any}
+use Rattle.std.{proofs.{Common.{◌≡◌, ℕ, ◌+◌, ◌≤◌, Bool, true, false, if◌then◌else◌, ◌==◌, ◌&&◌, ◌||◌, List, [], ◌∷◌, Option, Some, None, refl, ap, arith, inl, inr}, lemmas.Bool.{false≢true, and_from, or_cases, or_left, or_right}}, specs.{Prelude.nat_le, List.list_any}}
 use Rattle.exec_machine.specs.{declared.state.{Request.Request, Sleeper.Sleeper}, Deadlines.{earlier, first_timer, first_until, is_due, next_due}, Tests.{is_asleep, is_open}, World.{Common, seat_of}}
 use Rattle.exec_moves.specs.{Counts.one_if, Load.has_come}
 

@@ -1,11 +1,8 @@
 -- What an enter changes of the signs.
-use Rattle.std.proofs.Common.{◌≡◌, ℕ, suc, ◌==◌, ◌&&◌, Bool, true, false, List, [], ◌∷◌, map, if◌then◌else◌, refl, ap}
-use Rattle.std.proofs.lemmas.Bool.{false≢true, and_parts}
-use Rattle.std.specs.Prelude.{nat_le}
-use Rattle.std.specs.List.{list_any}
+use Rattle.std.{proofs.{Common.{◌≡◌, ℕ, suc, ◌==◌, ◌&&◌, Bool, true, false, List, [], ◌∷◌, map, if◌then◌else◌, refl, ap}, lemmas.Bool.{false≢true, and_parts}}, specs.{Prelude.nat_le, List.list_any}}
 use Rattle.exec_machine.specs.{declared.state.{Request.Request, RequestPhase.RequestPhase}, Deadlines.is_due, Requests.flown, Tests.{is_gated, is_staged}, World.{Common, Open}}
-use Rattle.exec_machine.specs.declared.state.RequestPhase.TheVariants as phase
 use Rattle.exec_moves.specs.{Counts.{count_numbered, gates_from}, Submit.waits_at}
+use Rattle.exec_machine.specs.declared.state.RequestPhase.TheVariants as phase
 
 any_map : {X : Type 0} (test : X → Bool) (f : X → X) → ((x : X) → test (f x) ≡ test x) → (xs : List X) → list_any test (map f xs) ≡ list_any test xs
 any_map test f same [] = refl

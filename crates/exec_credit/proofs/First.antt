@@ -1,8 +1,5 @@
 -- Where something is due, something is due first.
-use Rattle.std.proofs.Common.{◌≡◌, ℕ, zero, suc, ◌+◌, ◌<◌, ◌≤◌, ◌==◌, ◌&&◌, ◌||◌, Bool, true, false, not, List, [], ◌∷◌, length, get_or, if◌then◌else◌, Option, Some, None, ◌∙◌, refl, sym, ap, subst, arith, inl, inr}
-use Rattle.std.proofs.lemmas.Bool.{true≢false, false≢true, or_cases, or_parts, or_from, eq-eqb, and_from, and_parts, or_right, or_left, ltb-false, lt-leb, le-leb, leb-true, leb-false, eqb-true, not-true}
-use Rattle.std.specs.Prelude.{nat_le, nat_lt}
-use Rattle.std.specs.List.{list_any}
+use Rattle.std.{proofs.{Common.{◌≡◌, ℕ, zero, suc, ◌+◌, ◌<◌, ◌≤◌, ◌==◌, ◌&&◌, ◌||◌, Bool, true, false, not, List, [], ◌∷◌, length, get_or, if◌then◌else◌, Option, Some, None, ◌∙◌, refl, sym, ap, subst, arith, inl, inr}, lemmas.Bool.{true≢false, false≢true, or_cases, or_parts, or_from, eq-eqb, and_from, and_parts, or_right, or_left, ltb-false, lt-leb, le-leb, leb-true, leb-false, eqb-true, not-true}}, specs.{Prelude.{nat_le, nat_lt}, List.list_any}}
 use Rattle.exec_machine.specs.{declared.{config.Configuration.Configuration, state.{Request.Request, Sleeper.Sleeper}}, Deadlines.{is_due, is_first_due, is_none_earlier, is_told_after, order_on_wheel}, Tests.{all_numbered, is_asleep, is_open}, World.{Own as Books, Common, no_request, no_sleeper, seat_of, sleeper_of}}
 use Rattle.exec_moves.specs.{Serve.{first_numbered, first_to_fire, is_to_fire}, Slots.{first_in, is_some_slot, slot_of, is_in_slots}, State.Desk, Submit.first_due}
 

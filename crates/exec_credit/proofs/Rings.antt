@@ -1,7 +1,5 @@
 -- There is room in each ring, and what it says that no flush of one is due.
-use Rattle.std.proofs.Common.{◌≡◌, ℕ, zero, suc, ◌+◌, ◌<◌, ◌&&◌, ◌||◌, Bool, true, false, not, List, [], ◌∷◌, Some, None, if◌then◌else◌, refl, arith}
-use Rattle.std.proofs.lemmas.Bool.{true≢false, false≢true, lt-ltb}
-use Rattle.std.specs.Prelude.{nat_le, nat_lt, slice_get}
+use Rattle.std.{proofs.{Common.{◌≡◌, ℕ, zero, suc, ◌+◌, ◌<◌, ◌&&◌, ◌||◌, Bool, true, false, not, List, [], ◌∷◌, Some, None, if◌then◌else◌, refl, arith}, lemmas.Bool.{true≢false, false≢true, lt-ltb}}, specs.Prelude.{nat_le, nat_lt, slice_get}}
 use Rattle.exec_machine.specs.{declared.config.Configuration.Configuration, Ranges.{ring_size, doubled_up_to}, Tests.is_empty}
 
 -- there is some room in a ring

@@ -2,9 +2,7 @@
 use Rattle.std.specs.Prelude.{◌≡◌, ◌≤◌, true, ◌*◌, ◌==◌}
 use Rattle.exec_base.specs.Spinner.{Spinner}
 use Rattle.exec_machine.specs.{declared.config.Spin.Spin, Ranges.largest_spin}
-use Rattle.exec_moves.specs.declared.place.Place.{Place}
-use Rattle.exec_moves.specs.declared.idling.InWordWait.TheVariants as word_wait
-use Rattle.exec_moves.specs.declared.place.Place.TheVariants as at
+use Rattle.exec_moves.specs.declared.{place.Place.{Place, Place as at}, idling.InWordWait.InWordWait as word_wait}
 
 -- no budget of a spinner is larger than the largest
 pub record IsWithin (spin : Spin) (s : Spinner) : Type 0 where

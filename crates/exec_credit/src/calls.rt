@@ -1,8 +1,7 @@
 //! The law of credit for outside callers, among any number of workers.
 
 ghost use Rattle.std.specs.Prelude.{◌≡◌, ◌<◌, ◌≤◌, ℕ, true, false};
-ghost use Rattle.exec_machine.specs.{declared.config.Configuration.Configuration, Text.is_quiet, World.Common};
-ghost use Rattle.exec_machine.specs.declared.step.Action.TheVariants as action;
+ghost use Rattle.exec_machine.specs.{declared.{config.Configuration.Configuration, step.Action.Action as action}, Text.is_quiet, World.Common};
 ghost use Rattle.exec_moves.specs.{Call.CallDesk, MoveOfCaller.move_of_caller, State.Things, declared.handing.CallPlace.CallPlace};
 ghost use Rattle.exec_words.specs.Idle.{Idle};
 ghost use Rattle.exec_credit.specs.CallCredit.{call_credit, most_credit};

@@ -1,8 +1,7 @@
 //! Worked examples, proved by computation.
 
 ghost use Rattle.std.specs.Prelude.{◌≡◌, ◌≢◌, true, false, [], ◌∷◌};
-ghost use Rattle.exec_moves.specs.declared.handing.CallPlace.TheVariants as call;
-ghost use Rattle.exec_moves.specs.declared.handing.InGlobal.TheVariants as global;
+ghost use Rattle.exec_moves.specs.declared.handing.{CallPlace.CallPlace as call, InGlobal.InGlobal as global};
 ghost use Rattle.exec_credit.specs.CallCredit.{call_credit, most_credit};
 
 /// What the quiet steps of a call cost, of two workers of which the second is published, or neither is.

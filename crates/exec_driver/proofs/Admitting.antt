@@ -1,15 +1,11 @@
 -- The room that an admission makes, and gives up again.
-use Rattle.std.proofs.Common.{◌≡◌, ℕ, ◌+◌, ◌*◌, ◌≤◌, Bool, true, false, List, [], ◌∷◌, length, Option, Result, refl, ap, subst, arith}
-use Rattle.exec_lists.proofs.{Counting.{flying_few, pending_is}, Shifts.few}
-use Rattle.std.specs.Prelude.{is_some, is_err, count_by, IsSomeAnd, OnOk, OnErr}
-use Rattle.std.proofs.lemmas.List.Sums.{sum_by-cons}
+use Rattle.std.{proofs.{Common.{◌≡◌, ℕ, ◌+◌, ◌*◌, ◌≤◌, Bool, true, false, List, [], ◌∷◌, length, Option, Result, refl, ap, subst, arith}, lemmas.List.Sums.sum_by-cons}, specs.Prelude.{is_some, is_err, count_by, IsSomeAnd, OnOk, OnErr}}
+use Rattle.exec_lists.{proofs.{Counting.{flying_few, pending_is}, Shifts.few}, specs.{Lists.no_lists, Listed.{counts, count_of}}}
 use Rattle.exec_base.specs.{Slab.Slab, declared.slab.{InsertError.InsertError, Slot.Slot}}
 use Rattle.exec_ring.specs.{Kernels.Landing, Rings.{RingState, taken_places, fresh as fresh_ring}, Stores.{Same, Reserves, Releases}, declared.store.Store.Store}
 use Rattle.exec_time.specs.Wheel.{Wheel, fresh}
-use Rattle.exec_waiters.specs.{Events.IsTurnedDown, States.pending_count, declared.waiter.{Entry.Entry, Refused.Refused}}
-use Rattle.exec_waiters.proofs.Changes.{one_if}
+use Rattle.exec_waiters.{specs.{Events.IsTurnedDown, States.pending_count, declared.waiter.{Entry.Entry, Refused.Refused}}, proofs.Changes.one_if}
 use Rattle.exec_driver.specs.{Admission.{IsRefused, with_rooms}, Driving.{Driving, is_cancelled}, Sound.{IsSound, IsHeld, may_cancel}}
-use Rattle.exec_lists.specs.{Lists.no_lists, Listed.{counts, count_of}}
 use Rattle.exec_request.specs.{Windows.{cancel_window, wake_window}, declared.window.Window.Window}
 
 -- the windows of a cancel and of the wake poll want no room

@@ -1,13 +1,9 @@
 -- A wheel that goes on keeps a driver as it should be: what comes out of it falls due one after the other, at its tick and
 -- never before; until then it stays in its bucket.
-use Rattle.std.proofs.Common.{◌≡◌, ◌≤◌, ltb, leb, ℕ, true, List, [], ◌∷◌, Option, Some, None, refl, sym, ap, ◌∙◌, inl, inr, arith, ◌⊎◌, ◌<◌, zero, suc, false, length}
-use Rattle.exec_driver.proofs.{Words.{is_some, Slab, Id, Wheel, tick_at, least_active, turned, waiter_at, tick_in, Waiter, Entry, WaiterId, Driving, is_enrolled, Lists, is_among, with_due, IsListed, IsHeld, fallen_due, all_due, advanced_to, cases_Bool, or_left, or_right, false≢true, ltb-true, ltb-false, moment_of, tick_of, request_at, is_same, count_of, is_at_tick}, Expiring.held_due, Endings.ticked_in}
+use Rattle.std.{proofs.{Common.{◌≡◌, ◌≤◌, ltb, leb, ℕ, true, List, [], ◌∷◌, Option, Some, None, refl, sym, ap, ◌∙◌, inl, inr, arith, ◌⊎◌, ◌<◌, zero, suc, false, length}, lemmas.List.Folds.list_any-append}, specs.List.{Contains, slice_index_or}}
+use Rattle.exec_driver.{proofs.{Words.{is_some, Slab, Id, Wheel, tick_at, least_active, turned, waiter_at, tick_in, Waiter, Entry, WaiterId, Driving, is_enrolled, Lists, is_among, with_due, IsListed, IsHeld, fallen_due, all_due, advanced_to, cases_Bool, or_left, or_right, false≢true, ltb-true, ltb-false, moment_of, tick_of, request_at, is_same, count_of, is_at_tick}, Expiring.held_due, Endings.ticked_in}, specs.Punctual.IsPunctual}
 use Rattle.exec_lists.proofs.{Shifts.listed_push, Names.same_tells}
-use Rattle.exec_time.specs.{Turning.advanced, Wheel.{IsSettled, IsWithinReach, slot_of}}
-use Rattle.std.specs.List.{Contains, slice_index_or}
-use Rattle.std.proofs.lemmas.List.Folds.{list_any-append}
-use Rattle.exec_time.proofs.Passes.{never_early, then_out, tick_ahead}
-use Rattle.exec_driver.specs.Punctual.{IsPunctual}
+use Rattle.exec_time.{specs.{Turning.advanced, Wheel.{IsSettled, IsWithinReach, slot_of}}, proofs.Passes.{never_early, then_out, tick_ahead}}
 
 -- what of a wheel says nothing of where it stands, nor of what is in it, stays as it goes on
 turn_kept : {A : Type 0} (f : Wheel → A) → ((v : Wheel) (tick : ℕ) (bucket : ℕ → List Id) (ready : List Id) → f (record v { current = tick; bucket = bucket; ready = ready }) ≡ f v) → (w : Wheel) (tick : ℕ) (o : Option ℕ) → f (turned w tick o).wheel ≡ f w

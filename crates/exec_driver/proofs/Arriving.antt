@@ -1,18 +1,12 @@
 -- A request that comes in: it is in no list yet, then in those of its place, and there is room for it in each.
-use Rattle.std.proofs.Common.{◌≡◌, ◌↔◌, ℕ, ◌+◌, ◌^◌, ◌<◌, ◌≤◌, Bool, true, false, cond, List, length, Option, Some, None, refl, sym, ap, ◌∙◌, subst, inr, arith, length-set, length-append}
-use Rattle.exec_lists.proofs.{Counting.{OneChanged, pending_is, flying_is}, Shifts.{Shift, Kept, shifted, nowhere, few}}
-use Rattle.std.specs.Prelude.{is_some, count_by}
-use Rattle.std.proofs.lemmas.List.Sums.{sum_by-set, sum_by_push}
-use Rattle.exec_base.specs.{Slab.{Slab, slot_at, value_in, value_at, removed, inserted, filled, next_id, next_generation, generation_of, is_live, live_count, freed, IsPast, TakesId, Updates}, declared.slab.{Id.Id, Slot.{Slot, TheVariants.{Live, Vacant, Retired}}}}
-use Rattle.exec_base.proofs.Slots.{some_of_if, past-free, past-write, Changed-set}
+use Rattle.std.{proofs.{Common.{◌≡◌, ◌↔◌, ℕ, ◌+◌, ◌^◌, ◌<◌, ◌≤◌, Bool, true, false, cond, List, length, Option, Some, None, refl, sym, ap, ◌∙◌, subst, inr, arith, length-set, length-append}, lemmas.List.Sums.{sum_by-set, sum_by_push}}, specs.Prelude.{is_some, count_by}}
+use Rattle.exec_lists.{proofs.{Counting.{OneChanged, pending_is, flying_is}, Shifts.{Shift, Kept, shifted, nowhere, few}}, specs.{Lists.{Lists, with_queued, with_gated, with_enrolment}, Listed.{IsListed, counts}}}
+use Rattle.exec_base.{specs.{Slab.{Slab, slot_at, value_in, value_at, removed, inserted, filled, next_id, next_generation, generation_of, is_live, live_count, freed, IsPast, TakesId, Updates}, declared.slab.{Id.Id, Slot.{Slot, TheVariants.{Live, Vacant, Retired}}}}, proofs.Slots.{some_of_if, past-free, past-write, Changed-set}}
 use Rattle.exec_outcomes.specs.Accounts.{Account, is_durable}
-use Rattle.exec_request.specs.{Requests.{asked_of, deadline_of, gate_of}, States.Ended, declared.{output.RequestOutput.RequestOutput, request.Request.{Request}}}
+use Rattle.exec_request.specs.{Requests.{asked_of, deadline_of, gate_of}, States.Ended, declared.{output.RequestOutput.RequestOutput, request.Request.Request}}
 use Rattle.exec_time.specs.Wheel.{Wheel}
-use Rattle.exec_waiters.specs.{Events.{finished, finished_for}, States.{waiter_at, waiter_of, is_flying, pending_count}, declared.{observer.Observer.{Observer}, waiter.{Waiter.Waiter, Entry.{Entry, TheVariants.{Pending}}}, waiter_id.WaiterId.WaiterId}}
-use Rattle.exec_waiters.proofs.Changes.{at_by, entry_of, one_if}
-use Rattle.exec_driver.specs.{Admission.{HasTwoMore, with_rooms}, Driving.{Driving, is_queued, is_gated, is_unenrolled, is_enrolled, is_cancelled}, Sound.{IsSound, IsHeld, is_unpermitted, is_undated, is_at_tick, may_cancel}, Steps.{ended, in_place, with_deadline, placed_at, taken_in, newcomer, is_late, timed_out}}
-use Rattle.exec_lists.specs.{Lists.{Lists, with_queued, with_gated, with_enrolment}, Listed.{IsListed, counts}}
-use Rattle.exec_driver.proofs.Serving.{at_most_one}
+use Rattle.exec_waiters.{specs.{Events.{finished, finished_for}, States.{waiter_at, waiter_of, is_flying, pending_count}, declared.{observer.Observer.Observer, waiter.{Waiter.Waiter, Entry.{Entry, TheVariants.Pending}}, waiter_id.WaiterId.WaiterId}}, proofs.Changes.{at_by, entry_of, one_if}}
+use Rattle.exec_driver.{specs.{Admission.{HasTwoMore, with_rooms}, Driving.{Driving, is_queued, is_gated, is_unenrolled, is_enrolled, is_cancelled}, Sound.{IsSound, IsHeld, is_unpermitted, is_undated, is_at_tick, may_cancel}, Steps.{ended, in_place, with_deadline, placed_at, taken_in, newcomer, is_late, timed_out}}, proofs.Serving.at_most_one}
 
 pub durable_gated : (r : Request) → is_durable (asked_of r).kind ≡ is_some (gate_of r)
 durable_gated = grind arith

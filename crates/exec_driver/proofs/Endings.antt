@@ -1,12 +1,10 @@
 -- A request that ends, or is cancelled, keeps a driver sound.
-use Rattle.std.proofs.Common.{◌≡◌, ℕ, ◌+◌, ◌<◌, ◌≤◌, true, false, [], ◌∷◌, length, Option, Some, None, refl, sym, ap, ◌∙◌, inr, arith, length-append}
-use Rattle.std.specs.Option.{IfSome}
-use Rattle.exec_driver.proofs.Words.{is_some, Slab, value_at, written, Id, Account, Ended, asks_cancel, Wheel, told_by_finish, cancelled, changed, waiter_at, is_flying, pending_count, tick_in, Observer, Local, Forwarded, DetachedSync, Orphaned, Waiter, Entry, Pending, Ready, WaiterId, WaiterState, CancelRequested, entry_of, one_if, Driving, request_at, is_queued, is_gated, is_unenrolled, is_enrolled, is_cancelled, without, IsSound, IsHeld, is_tick, is_unpermitted, is_undated, is_at_tick, may_cancel, count_of, Tells, Deferred, ended, cancelling, not-true, not-false}
+use Rattle.std.{proofs.Common.{◌≡◌, ℕ, ◌+◌, ◌<◌, ◌≤◌, true, false, [], ◌∷◌, length, Option, Some, None, refl, sym, ap, ◌∙◌, inr, arith, length-append}, specs.Option.IfSome}
+use Rattle.exec_driver.{proofs.Words.{is_some, Slab, value_at, written, Id, Account, Ended, asks_cancel, Wheel, told_by_finish, cancelled, changed, waiter_at, is_flying, pending_count, tick_in, Observer, Local, Forwarded, DetachedSync, Orphaned, Waiter, Entry, Pending, Ready, WaiterId, WaiterState, CancelRequested, entry_of, one_if, Driving, request_at, is_queued, is_gated, is_unenrolled, is_enrolled, is_cancelled, without, IsSound, IsHeld, is_tick, is_unpermitted, is_undated, is_at_tick, may_cancel, count_of, Tells, Deferred, ended, cancelling, not-true, not-false}, specs.Steps.{unscheduled, told_by_cancel, timed_out}}
 use Rattle.exec_lists.proofs.{Names.fewer_without, Counting.{OneChanged, same_written, one_written, one_removed, pending_is, flying_is}, Shifts.{Left, Kept, Joined, shifted, nowhere, room_for}}
 use Rattle.exec_request.specs.{Requests.output_of, declared.output.RequestOutput.RequestOutput}
 use Rattle.exec_time.specs.Wheel.{removed}
 use Rattle.exec_waiters.specs.{Events.{finished, finished_for}, States.is_idle}
-use Rattle.exec_driver.specs.Steps.{unscheduled, told_by_cancel, timed_out}
 
 -- the active entries of the wheel without one
 pub ticks_after : (w : Wheel) (tick : Option ℕ) (n n' : ℕ → ℕ) → ((t : ℕ) → w.active t ≡ n t) → ((t : ℕ) → n' t + one_if (is_tick t tick) ≡ n t) → (t : ℕ) → (unscheduled w tick).active t ≡ n' t

@@ -1,8 +1,6 @@
 -- How many entries a ring has once it was entered, or a completion was taken out, and what an enter leaves of its
 -- submission queue.
-use Rattle.std.proofs.Common.{◌≡◌, ℕ, ◌+◌, ◌≤◌, true, false, List, [], ◌∷◌, ◌++◌, length, Some, refl, sym, ◌∙◌, arith, length-append}
-use Rattle.std.specs.Prelude.{fold}
-use Rattle.std.proofs.lemmas.{List.Edits.length-remove, Option.slice_get_within}
+use Rattle.std.{proofs.{Common.{◌≡◌, ℕ, ◌+◌, ◌≤◌, true, false, List, [], ◌∷◌, ◌++◌, length, Some, refl, sym, ◌∙◌, arith, length-append}, lemmas.{List.Edits.length-remove, Option.slice_get_within}}, specs.Prelude.fold}
 use Rattle.exec_driver.proofs.Words.{cond_both, false≢true, OpResult, wake_completion, Landing, landed, may_land, reaped, next_completion, flight_of, RingState, taken_places, Completion, Submission, is_control}
 use Rattle.exec_request.specs.declared.window.Opcode.{Opcode}
 use Rattle.exec_ring.specs.{Kernels.{woken, with_poll, taken_as, taken_in, all_taken, all_landed, MayAllLand, entered_with, answer_of_enter}, declared.ring.Entered.TheVariants.{Taken, Busy}}

@@ -1,7 +1,6 @@
 -- Who is taken out of what is due, or of what is to be enrolled, leaves a driver as it should be.
 use Rattle.std.proofs.Common.{◌≡◌, ◌<◌, ◌≤◌, ◌+◌, ◌^◌, Ok, ℕ, List, [], length, Option, Some, None, refl, arith, ltb, Bool, ◌&&◌, cond}
-use Rattle.exec_driver.proofs.{Words.{Slab, Wheel, moment_of, waiter_at, Waiter, Entry, WaiterId, Driving, is_unenrolled, is_enrolled, first_of, IsListed, IsHeld, tick_for, is_some, tick_of}, Granting.{IsUnset, unset_tells}, Stepping.{first_in, first_there}}
-use Rattle.exec_driver.specs.Steps.{tick_by}
+use Rattle.exec_driver.{proofs.{Words.{Slab, Wheel, moment_of, waiter_at, Waiter, Entry, WaiterId, Driving, is_unenrolled, is_enrolled, first_of, IsListed, IsHeld, tick_for, is_some, tick_of}, Granting.{IsUnset, unset_tells}, Stepping.{first_in, first_there}}, specs.Steps.tick_by}
 use Rattle.exec_time.specs.Wheel.{target_of}
 
 by_range : (a b : Bool) (t tick low high : ℕ) → cond a (Some None) (cond b None (cond (ltb low t && ltb t high) (Some (Some t)) None)) ≡ Some (Some tick) → (low < tick) × (tick < high)

@@ -1,10 +1,8 @@
 -- A permit, a deadline that is enrolled, and one that has come, keep a driver as it should be.
 use Rattle.std.proofs.Common.{◌≡◌, ℕ, ◌+◌, ◌<◌, ◌≤◌, Bool, true, false, not, ◌&&◌, List, [], ◌∷◌, ◌++◌, length, Option, Some, None, refl, sym, ap, ◌∙◌, inl, inr, arith}
-use Rattle.exec_driver.proofs.{Words.{is_some, false≢true, Slab, written, Id, is_durable, asked_of, deadline_of, asks_cancel, Active, Wheel, with_permit, with_tick, waiter_at, is_flying, needs_permit, Waiter, Entry, Pending, WaiterId, one_if, Driving, request_at, is_queued, is_gated, is_unenrolled, is_enrolled, is_cancelled, first_of, rest_of, is_among, with_queued, after_enrolment, IsSound, IsHeld, is_unpermitted, is_undated, is_at_tick, is_tick, may_cancel, are_all, is_once, count_of, and_parts}, Endings.one_changed, Stepping.{stays, there_by, first_tells}, Arriving.durable_gated}
-use Rattle.exec_lists.proofs.{Names.same_tells, Counting.{pending_is, flying_is}, Shifts.{Left, Kept, Joined, First, shifted, nowhere, room_for}}
+use Rattle.exec_driver.{proofs.{Words.{is_some, false≢true, Slab, written, Id, is_durable, asked_of, deadline_of, asks_cancel, Active, Wheel, with_permit, with_tick, waiter_at, is_flying, needs_permit, Waiter, Entry, Pending, WaiterId, one_if, Driving, request_at, is_queued, is_gated, is_unenrolled, is_enrolled, is_cancelled, first_of, rest_of, is_among, with_queued, after_enrolment, IsSound, IsHeld, is_unpermitted, is_undated, is_at_tick, is_tick, may_cancel, are_all, is_once, count_of, and_parts}, Endings.one_changed, Stepping.{stays, there_by, first_tells}, Arriving.durable_gated}, specs.Placed.{ListsRequests, HasDeadlines, FliesPermitted, Says}}
+use Rattle.exec_lists.{proofs.{Names.same_tells, Counting.{pending_is, flying_is}, Shifts.{Left, Kept, Joined, First, shifted, nowhere, room_for}}, specs.Lists.without_gated}
 use Rattle.exec_ring.specs.Kernels.{MayAllLand, all_taken}
-use Rattle.exec_driver.specs.Placed.{ListsRequests, HasDeadlines, FliesPermitted, Says}
-use Rattle.exec_lists.specs.Lists.{without_gated}
 use Rattle.exec_time.specs.Wheel.{scheduled}
 
 -- one more is active at a tick

@@ -1,13 +1,10 @@
 -- Each call keeps a driver punctual: whose deadline stands in the wheel is due, or comes out at its tick.
-use Rattle.std.proofs.Common.{zero, suc, ◌≡◌, ◌⊎◌, ℕ, ◌<◌, Bool, cond, List, [], ◌∷◌, set, slice_get, Option, Some, None, refl, inl, inr, arith}
-use Rattle.std.specs.Option.{IfSome}
-use Rattle.exec_driver.proofs.{Words.{Slab, value_at, written, TaskNo, Account, asks_cancel, cancelled, changed, waiter_in, tick_in, tick_of, Observer, Waiter, Entry, Pending, WaiterId, Driving, request_at, Ended, OpenState, cases_Bool}, Endings.one_changed, Serving.{keeps_one, keeps_punctual, like_unscheduled, eases_ended}}
+use Rattle.std.{proofs.Common.{zero, suc, ◌≡◌, ◌⊎◌, ℕ, ◌<◌, Bool, cond, List, [], ◌∷◌, set, slice_get, Option, Some, None, refl, inl, inr, arith}, specs.Option.IfSome}
+use Rattle.exec_driver.{proofs.{Words.{Slab, value_at, written, TaskNo, Account, asks_cancel, cancelled, changed, waiter_in, tick_in, tick_of, Observer, Waiter, Entry, Pending, WaiterId, Driving, request_at, Ended, OpenState, cases_Bool}, Endings.one_changed, Serving.{keeps_one, keeps_punctual, like_unscheduled, eases_ended}}, specs.{Admission.with_rooms, Punctual.IsPunctual, Steps.{cancelled_at, cancelling, without_observer, let_go, ended}, Turns.made_way}}
 use Rattle.exec_lists.proofs.Counting.{OneChanged, one_written, one_removed}
-use Rattle.exec_opens.proofs.Lines.{placed_there}
+use Rattle.exec_opens.{proofs.Lines.placed_there, specs.Opens.{open_at, open_named, with_named, placed, writing}}
 use Rattle.exec_base.specs.Slab.{removed}
-use Rattle.exec_waiters.specs.{Events.{taken, forwarded, with_observer, with_waker}}
-use Rattle.exec_driver.specs.{Admission.with_rooms, Punctual.IsPunctual, Steps.{cancelled_at, cancelling, without_observer, let_go, ended}, Turns.made_way}
-use Rattle.exec_opens.specs.Opens.{open_at, open_named, with_named, placed, writing}
+use Rattle.exec_waiters.specs.Events.{taken, forwarded, with_observer, with_waker}
 
 -- WHO WAS ADMITTED MAY JOIN
 

@@ -1,12 +1,9 @@
 -- An operation that ends in a ring in memory keeps a driver as it should be.
-use Rattle.std.proofs.Common.{◌≡◌, ℕ, Bool, true, ◌&&◌, cond, Option, Some, Result, Ok, Err, refl, ap, inl, inr, arith}
-use Rattle.std.specs.Prelude.{OnOk, OnErr}
-use Rattle.exec_driver.proofs.{Words.{Slab, written, OpResult, asked_of, deadline_of, Request, landed, may_land, flight_of, RingState, is_flying, Waiter, Entry, Pending, WaiterId, Driving, request_at, IsHeld, cases_Bool}, Endings.{one_changed, flying_there}, Entering.landed_within, Keeping.punctual_one, Observing.held_alike, Stepping.{held_ring, permit_same}, Windows.deadline_same}
+use Rattle.std.{proofs.Common.{◌≡◌, ℕ, Bool, true, ◌&&◌, cond, Option, Some, Result, Ok, Err, refl, ap, inl, inr, arith}, specs.Prelude.{OnOk, OnErr}}
+use Rattle.exec_driver.{proofs.{Words.{Slab, written, OpResult, asked_of, deadline_of, Request, landed, may_land, flight_of, RingState, is_flying, Waiter, Entry, Pending, WaiterId, Driving, request_at, IsHeld, cases_Bool}, Endings.{one_changed, flying_there}, Entering.landed_within, Keeping.punctual_one, Observing.held_alike, Stepping.{held_ring, permit_same}, Windows.deadline_same}, specs.Punctual.IsPunctual}
 use Rattle.exec_request.specs.declared.window.{Opcode.Opcode, Window.Window}
 use Rattle.exec_ring.specs.{Landings.{Moves, MovesBy}, declared.{completion.Submission.Submission, landing.Unlawful.Unlawful, store.Store.Store}}
-use Rattle.exec_waiters.specs.{Events.Lands, Ids.user_data_of}
-use Rattle.exec_waiters.proofs.Fits.{asked_after}
-use Rattle.exec_driver.specs.{Punctual.IsPunctual}
+use Rattle.exec_waiters.{specs.{Events.Lands, Ids.user_data_of}, proofs.Fits.asked_after}
 
 -- what came of a landing: the answer, the ring, and the requests with the store
 pub record Landed {S F : Type 0} (d : Driving S F) (s' : Slab (Entry S F)) (ring' : RingState) (id : WaiterId) (given : OpResult) (answer : Result (Unit {0}) Unlawful) (st st' : Store) : Type 0 where

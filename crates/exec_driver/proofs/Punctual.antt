@@ -1,19 +1,12 @@
 -- Deadlines that are kept: one that is enrolled, when a wheel is settled, and what comes next of one: the deadline of a
 -- request.
-use Rattle.std.proofs.Common.{suc, ◌≡◌, ℕ, ◌+◌, ◌<◌, ◌≤◌, eqb, Bool, true, false, not, ◌&&◌, ◌||◌, List, [], ◌∷◌, length, get_or, Option, Some, None, Ok, Err, Result, refl, sym, ap, subst, ◌∙◌, inl, inr, arith, ◌-◌}
-use Rattle.exec_driver.proofs.{Words.cases_Bool, Endings.{one_changed, ticked}, Expiring.{IsTaken, tick_tells, unset_there}, Serving.{eases_ended, keeps_still, keeps_both, serves_by, room_ended, room_still}, Stepping.{first_tells, no_first}, Advancing.tick_there}
-use Rattle.exec_lists.proofs.{Names.{same_tells, fewer_without}, Counting.pending_is}
-use Rattle.std.specs.Prelude.{count_by, is_some, Contains, find, nat_lt}
-use Rattle.std.specs.{Option.{IfSome, IfNone}, List.range_with_len}
-use Rattle.std.proofs.lemmas.{Bool.{false≢true, cases_lt, Decides.{eqb_tells, nat_tests}}, List.{Sums.sum_by-cons, Elements.{Contains-append_left, Contains-append_right}}}
+use Rattle.std.{proofs.{Common.{suc, ◌≡◌, ℕ, ◌+◌, ◌<◌, ◌≤◌, eqb, Bool, true, false, not, ◌&&◌, ◌||◌, List, [], ◌∷◌, length, get_or, Option, Some, None, Ok, Err, Result, refl, sym, ap, subst, ◌∙◌, inl, inr, arith, ◌-◌}, lemmas.{Bool.{false≢true, cases_lt, Decides.{eqb_tells, nat_tests}}, List.{Sums.sum_by-cons, Elements.{Contains-append_left, Contains-append_right}}}}, specs.{Prelude.{count_by, is_some, Contains, find, nat_lt}, Option.{IfSome, IfNone}, List.range_with_len}}
+use Rattle.exec_driver.{proofs.{Words.cases_Bool, Endings.{one_changed, ticked}, Expiring.{IsTaken, tick_tells, unset_there}, Serving.{eases_ended, keeps_still, keeps_both, serves_by, room_ended, room_still}, Stepping.{first_tells, no_first}, Advancing.tick_there}, specs.{Driving.{Driving, request_at}, Punctual.{IsPunctual, IsFirstTick, TellsDeadlines}, Sound.{IsSound, is_tick, is_at_tick}, Steps.{tick_for, enrolled, told_by_enrolment, ended, Enrols}, Turns.Serves, declared.driver.timing.Enrolled.Enrolled}}
+use Rattle.exec_lists.{proofs.{Names.{same_tells, fewer_without}, Counting.pending_is}, specs.{Lists.{has_first, first_of, is_among, after_enrolment}, Listed.{counts, count_of}}}
 use Rattle.exec_base.specs.{Slab.{Slab, written}, declared.{error.Error.Error, slab.{Id.Id, Slot.{Slot, TheVariants.{Live, Vacant, Retired}}}}}
 use Rattle.exec_request.specs.Requests.{deadline_of}
-use Rattle.exec_time.specs.{Wheel.{Wheel, IsSettled, IsWithinReach, slot_of, scheduled, least_active}, WheelView.wheel_of, declared.wheel.TimeoutWheel.TimeoutWheel}
-use Rattle.exec_time.proofs.{Ranges.slots_apart, Passes.least_before}
-use Rattle.exec_waiters.specs.{Events.with_tick, States.{waiter_at, tick_in, tick_of}, Told.Tells, declared.{deferred.Deferred.Deferred, waiter.{Waiter.Waiter, Entry.{Entry, TheVariants.{Pending, Ready}}}, waiter_id.WaiterId.WaiterId}}
-use Rattle.exec_waiters.proofs.Changes.{one_if}
-use Rattle.exec_driver.specs.{Driving.{Driving, request_at}, Punctual.{IsPunctual, IsFirstTick, TellsDeadlines}, Sound.{IsSound, is_tick, is_at_tick}, Steps.{tick_for, enrolled, told_by_enrolment, ended, Enrols}, Turns.Serves, declared.driver.timing.Enrolled.Enrolled}
-use Rattle.exec_lists.specs.{Lists.{has_first, first_of, is_among, after_enrolment}, Listed.{counts, count_of}}
+use Rattle.exec_time.{specs.{Wheel.{Wheel, IsSettled, IsWithinReach, slot_of, scheduled, least_active}, WheelView.wheel_of, declared.wheel.TimeoutWheel.TimeoutWheel}, proofs.{Ranges.slots_apart, Passes.least_before}}
+use Rattle.exec_waiters.{specs.{Events.with_tick, States.{waiter_at, tick_in, tick_of}, Told.Tells, declared.{deferred.Deferred.Deferred, waiter.{Waiter.Waiter, Entry.{Entry, TheVariants.{Pending, Ready}}}, waiter_id.WaiterId.WaiterId}}, proofs.Changes.one_if}
 
 -- WHEELS
 

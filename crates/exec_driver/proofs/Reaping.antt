@@ -1,11 +1,10 @@
 -- A completion that is taken in keeps a driver as it should be.
 use Rattle.std.proofs.Common.{◌≡◌, ℕ, ◌<◌, Bool, true, false, ◌&&◌, cond, List, [], ◌∷◌, ◌++◌, length, Option, Some, None, refl, sym, ap, ◌∙◌, inr, arith, append-nil}
-use Rattle.exec_driver.proofs.{Words.{is_some, Slab, written, Asked, Kind, OpResult, may_complete, told_by_finish, Id, deadline_of, Ended, asks_cancel, Request, Landing, next_completion, Completion, Account, result_in, waiter_at, is_flying, needs_permit, Tells, Deferred, Waiter, Entry, Pending, WaiterId, Driving, request_at, is_queued, is_gated, is_unenrolled, is_enrolled, is_cancelled, with_queued, IsSound, IsHeld, is_unpermitted, is_undated, is_at_tick, may_cancel, OpenState, account_in, with_account, is_control, taken_out, open_after, ended}, Endings.one_changed, Stepping.stays, Entering.{less_reaped, no_wake}}
+use Rattle.exec_driver.{proofs.{Words.{is_some, Slab, written, Asked, Kind, OpResult, may_complete, told_by_finish, Id, deadline_of, Ended, asks_cancel, Request, Landing, next_completion, Completion, Account, result_in, waiter_at, is_flying, needs_permit, Tells, Deferred, Waiter, Entry, Pending, WaiterId, Driving, request_at, is_queued, is_gated, is_unenrolled, is_enrolled, is_cancelled, with_queued, IsSound, IsHeld, is_unpermitted, is_undated, is_at_tick, may_cancel, OpenState, account_in, with_account, is_control, taken_out, open_after, ended}, Endings.one_changed, Stepping.stays, Entering.{less_reaped, no_wake}}, specs.{Steps.{landed_at, lawful_of}, declared.driver.reaping.Reaped.Reaped}}
 use Rattle.exec_lists.proofs.{Counting.{pending_is, flying_is}, Shifts.{Kept, Joined, shifted, nowhere, room_for}}
 use Rattle.exec_opens.proofs.Lines.{set_there}
 use Rattle.exec_outcomes.specs.{Outcomes.{Cursor, outcome_next, outcome_by as answer_by, outcome_by_stop}, declared.outcome.{Judged.Judged, Outcome.Outcome}}
 use Rattle.exec_waiters.specs.{Events.{is_lawful_for, outcome_by}, declared.completed.CompletionOutcome.TheVariants.{Requeue, Complete}, States.{name_of, named}, Told.nothing_told}
-use Rattle.exec_driver.specs.{Steps.{landed_at, lawful_of}, declared.driver.reaping.Reaped.Reaped}
 
 -- where no result decides, nobody asked for the cancel
 by_none : (kind : Kind) (b : Bool) (o : Option (Judged × ℕ)) → answer_by kind b o ≡ None → b ≡ false

@@ -1,14 +1,10 @@
 -- The steps of a service, as its parts make them.
-use Rattle.std.proofs.Common.{◌≡◌, ℕ, ◌+◌, ◌^◌, ◌<◌, Bool, true, false, not, ◌&&◌, ◌||◌, cond, List, [], Option, Some, None, refl, sym, ap, subst, ◌∙◌, inl, inr, arith}
-use Rattle.std.specs.Prelude.{is_none}
-use Rattle.std.specs.Option.{IfSome, IfNone, SomeIff}
-use Rattle.std.proofs.lemmas.Bool.{false≢true}
+use Rattle.std.{proofs.{Common.{◌≡◌, ℕ, ◌+◌, ◌^◌, ◌<◌, Bool, true, false, not, ◌&&◌, ◌||◌, cond, List, [], Option, Some, None, refl, sym, ap, subst, ◌∙◌, inl, inr, arith}, lemmas.Bool.false≢true}, specs.{Prelude.is_none, Option.{IfSome, IfNone, SomeIff}}}
 use Rattle.exec_time.specs.Turning.{advanced}
 use Rattle.exec_waiters.specs.{States.file_of, Told.Tells, declared.{deferred.Deferred.Deferred, waiter.Waiter.Waiter, waiter_id.WaiterId.WaiterId}}
-use Rattle.exec_driver.specs.{Driving.{Driving, request_at, is_full, may_stage_one, has_pending}, Examples.idle, Placed.Says, Service.{permit_by, Repeats, NoStep, OneMore, Passes, reached, ExpiresOne, EnrolsOne, GrantsAt, Turn, NoTurn, StagesEntry, StagesOneEntry, Cancel, Request, WakePoll, Staged, Parks, Refused, Waited, NoGate, ServesInOrder, entered_if}, Steps.{Grants, Enrols, StagesOne, is_turn_of, expired, told_by_cancel, cancel_staged, poll_staged, with_landings}, declared.driver.{staging.Granted.Granted, timing.Enrolled.Enrolled}, Turns.{made_way, may_wait, finds_busy}}
+use Rattle.exec_driver.{specs.{Driving.{Driving, request_at, is_full, may_stage_one, has_pending}, Examples.idle, Placed.Says, Service.{permit_by, Repeats, NoStep, OneMore, Passes, reached, ExpiresOne, EnrolsOne, GrantsAt, Turn, NoTurn, StagesEntry, StagesOneEntry, Cancel, Request, WakePoll, Staged, Parks, Refused, Waited, NoGate, ServesInOrder, entered_if}, Steps.{Grants, Enrols, StagesOne, is_turn_of, expired, told_by_cancel, cancel_staged, poll_staged, with_landings}, declared.driver.{staging.Granted.Granted, timing.Enrolled.Enrolled}, Turns.{made_way, may_wait, finds_busy}}, proofs.{Stepping.no_first, Turns.{none_staged, way_may}, Words.{cases_Bool, and_parts, and_from}}}
 use Rattle.exec_lists.specs.Lists.{has_first, first_of}
 use Rattle.exec_opens.specs.Opens.{OpenState, account_in, holder_at}
-use Rattle.exec_driver.proofs.{Stepping.no_first, Turns.{none_staged, way_may}, Words.{cases_Bool, and_parts, and_from}}
 
 module _ {A : Type 0} (Step : A → A → Type 0) where
   pub repeats_both : (a b c : A) → Repeats Step a b → Repeats Step b c → Repeats Step a c

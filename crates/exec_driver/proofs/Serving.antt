@@ -1,17 +1,13 @@
 -- What each step of a service keeps.
-use Rattle.std.proofs.Common.{◌≡◌, ◌≢◌, ◌⊎◌, ℕ, ◌+◌, ◌≤◌, Bool, true, false, List, [], ◌∷◌, ◌++◌, length, Option, Some, None, refl, sym, ap, subst, ◌∙◌, inl, inr, arith, length-append}
-use Rattle.exec_driver.proofs.{Words.cases_Bool, Endings.{one_changed, one_finished}, Telling.{few_finished, room_left, room_within}}
-use Rattle.exec_lists.proofs.{Names.same_tells, Counting.{OneChanged, pending_is}}
-use Rattle.std.specs.Prelude.{is_some}
+use Rattle.std.{proofs.Common.{◌≡◌, ◌≢◌, ◌⊎◌, ℕ, ◌+◌, ◌≤◌, Bool, true, false, List, [], ◌∷◌, ◌++◌, length, Option, Some, None, refl, sym, ap, subst, ◌∙◌, inl, inr, arith, length-append}, specs.Prelude.is_some}
+use Rattle.exec_driver.{proofs.{Words.cases_Bool, Endings.{one_changed, one_finished}, Telling.{few_finished, room_left, room_within}}, specs.{Driving.{Driving, request_at}, Steps.{is_control, unscheduled, ended, noted, swept_from, taken_out, landed_at, queued_or_ended, told_by_end, Reaps}, Punctual.IsPunctual, Turns.{CanTell, GoesOn, Serves, StaysDone}, declared.driver.reaping.Reaped.Reaped}}
+use Rattle.exec_lists.{proofs.{Names.same_tells, Counting.{OneChanged, pending_is}}, specs.Lists.{has_first, is_among, is_same, without}}
 use Rattle.exec_base.specs.Slab.{written}
 use Rattle.exec_outcomes.specs.{Accounts.Account, declared.outcome.OpResult.OpResult}
 use Rattle.exec_request.specs.States.{Ended}
 use Rattle.exec_ring.specs.{Kernels.reaped, declared.completion.Posted.Posted}
 use Rattle.exec_time.specs.Wheel.{Wheel, removed}
-use Rattle.exec_waiters.specs.{Events.told_by_finish, States.{pending_count, tick_in, tick_of}, Told.{HasPlaces, Tells, nothing_told}, declared.{deferred.Deferred.Deferred, waiter.{Waiter.Waiter, Entry.TheVariants.Pending}, waiter_id.WaiterId.WaiterId}}
-use Rattle.exec_waiters.proofs.Changes.{one_if}
-use Rattle.exec_driver.specs.{Driving.{Driving, request_at}, Steps.{is_control, unscheduled, ended, noted, swept_from, taken_out, landed_at, queued_or_ended, told_by_end, Reaps}, Punctual.IsPunctual, Turns.{CanTell, GoesOn, Serves, StaysDone}, declared.driver.reaping.Reaped.Reaped}
-use Rattle.exec_lists.specs.Lists.{has_first, is_among, is_same, without}
+use Rattle.exec_waiters.{specs.{Events.told_by_finish, States.{pending_count, tick_in, tick_of}, Told.{HasPlaces, Tells, nothing_told}, declared.{deferred.Deferred.Deferred, waiter.{Waiter.Waiter, Entry.TheVariants.Pending}, waiter_id.WaiterId.WaiterId}}, proofs.Changes.one_if}
 use Rattle.exec_opens.specs.Opens.{OpenState}
 
 -- a list without a name is empty where it was, and has every other that it had

@@ -1,9 +1,7 @@
 -- Each other step keeps a driver sound.
 use Rattle.std.proofs.Common.{◌≡◌, ℕ, ◌<◌, ◌≤◌, Bool, true, false, not, ◌&&◌, List, [], ◌∷◌, length, Option, Some, None, refl, sym, ap, ◌∙◌, inl, inr, arith, length-append}
-use Rattle.exec_driver.proofs.{Words.{is_some, Slab, written, is_durable, Asked, asked_of, deadline_of, asks_cancel, Request, Landing, RingState, taken_places, Submission, waiter_at, is_flying, pending_count, needs_permit, Waiter, Entry, Pending, WaiterId, Driving, request_at, is_queued, is_gated, is_unenrolled, is_enrolled, is_cancelled, first_of, rest_of, IsListed, IsSound, IsHeld, is_unpermitted, is_undated, is_at_tick, may_cancel, are_all, cases_Bool, and_parts}, Endings.one_changed, Entering.Within}
-use Rattle.exec_lists.proofs.{Counting.{pending_is, flying_is, flying_few}, Shifts.{Shift, Left, Kept, First, shifted, nowhere}}
-use Rattle.exec_lists.specs.Lists.{after_queued, has_first}
-use Rattle.exec_driver.specs.Steps.{with_staged}
+use Rattle.exec_driver.{proofs.{Words.{is_some, Slab, written, is_durable, Asked, asked_of, deadline_of, asks_cancel, Request, Landing, RingState, taken_places, Submission, waiter_at, is_flying, pending_count, needs_permit, Waiter, Entry, Pending, WaiterId, Driving, request_at, is_queued, is_gated, is_unenrolled, is_enrolled, is_cancelled, first_of, rest_of, IsListed, IsSound, IsHeld, is_unpermitted, is_undated, is_at_tick, may_cancel, are_all, cases_Bool, and_parts}, Endings.one_changed, Entering.Within}, specs.Steps.with_staged}
+use Rattle.exec_lists.{proofs.{Counting.{pending_is, flying_is, flying_few}, Shifts.{Shift, Left, Kept, First, shifted, nowhere}}, specs.Lists.{after_queued, has_first}}
 
 -- a list with a first
 pub first_tells : (ids : List WaiterId) (id : WaiterId) → first_of ids ≡ Some id → ids ≡ id ∷ rest_of ids

@@ -1,8 +1,6 @@
 -- Completions of no operation are swept away one after the other.
-use Rattle.std.proofs.Common.{◌≡◌, ℕ, ltb, ◌-◌, Bool, true, false, cond, List, [], ◌∷◌, Option, Some, None, refl, sym, ap, ◌∙◌, arith}
-use Rattle.std.proofs.Math.Bool.{and-true}
-use Rattle.exec_driver.proofs.Words.{false≢true, ltb-false, Landing, next_in, next_completion, wake_completion, Completion, Posted, Driving, is_control, noted, taken_out, cases_Bool}
-use Rattle.exec_driver.specs.{Steps.{is_next_control, swept_from, swept, after_next_control}}
+use Rattle.std.proofs.{Common.{◌≡◌, ℕ, ltb, ◌-◌, Bool, true, false, cond, List, [], ◌∷◌, Option, Some, None, refl, sym, ap, ◌∙◌, arith}, Math.Bool.and-true}
+use Rattle.exec_driver.{proofs.Words.{false≢true, ltb-false, Landing, next_in, next_completion, wake_completion, Completion, Posted, Driving, is_control, noted, taken_out, cases_Bool}, specs.Steps.{is_next_control, swept_from, swept, after_next_control}}
 
 pub none_left : (w : ℕ) → ltb 0 w ≡ false → w ≡ 0
 none_left w is = let no = ltb-false 0 w is in omega (arith, no)

@@ -1,10 +1,9 @@
 -- What two calls tell, one after the other, and the room that they need.
-use Rattle.std.proofs.Common.{◌≡◌, ℕ, ◌+◌, ◌<◌, ◌≤◌, List, [], ◌∷◌, ◌++◌, length, Option, ap, ◌∙◌, arith, length-append}
-use Rattle.std.proofs.lemmas.List.{append_assoc}
-use Rattle.exec_base.specs.declared.{slab.Id.Id}
+use Rattle.std.proofs.{Common.{◌≡◌, ℕ, ◌+◌, ◌<◌, ◌≤◌, List, [], ◌∷◌, ◌++◌, length, Option, ap, ◌∙◌, arith, length-append}, lemmas.List.append_assoc}
+use Rattle.exec_base.specs.declared.slab.Id.{Id}
 use Rattle.exec_outcomes.specs.Accounts.{Account}
 use Rattle.exec_request.specs.{States.Ended, declared.output.RequestOutput.RequestOutput}
-use Rattle.exec_waiters.specs.{Events.{told_by_orphan, told_by_close, told_by_finish, output_told}, Told.{Told, HasPlaces, Tells}, declared.{deferred.{Deferred.Deferred, Retired.Retired}, waiter.{Waiter.Waiter, Entry.{Entry}}, observer.Observer.{Observer}}}
+use Rattle.exec_waiters.specs.{Events.{told_by_orphan, told_by_close, told_by_finish, output_told}, Told.{Told, HasPlaces, Tells}, declared.{deferred.{Deferred.Deferred, Retired.Retired}, waiter.{Waiter.Waiter, Entry.Entry}, observer.Observer.Observer}}
 use Rattle.exec_driver.specs.Steps.{both}
 
 added : {A : Type 0} (a b c x y : List A) → b ≡ a ++ x → c ≡ b ++ y → c ≡ a ++ (x ++ y)

@@ -1,18 +1,12 @@
 -- The steps of a service: completions, deadlines, permits.
-use Rattle.std.proofs.Common.{◌≡◌, ℕ, ◌+◌, ◌^◌, ◌<◌, ◌≤◌, eqb, ltb, Bool, true, false, not, ◌&&◌, ◌||◌, cond, List, [], ◌∷◌, length, Option, Some, None, refl, sym, ap, subst, ◌∙◌, inr, arith}
-use Rattle.exec_driver.proofs.{Words.{and_from, and_parts, cases_Bool}, Endings.{one_changed, one_finished}, Granting.gated_there, Entering.{IsEntered, enters}, Serving.{Eases, Answers, eases_both, eases_is, eases_ring, eases_swept, eases_written, eases_judged, after_reap, reaps_ring, room_still, room_judged, room_ended, keeps_one, like_unscheduled, serves_by, serves_itself, done_itself}, Stepping.{first_in, first_there, first_tells, no_first}, Telling.room_within, Advancing.is_itself}
-use Rattle.exec_lists.proofs.Names.{fewer_without}
-use Rattle.std.specs.Prelude.{is_some, is_none}
-use Rattle.std.specs.Option.{IfSome, IfNone, SomeIff}
-use Rattle.std.proofs.lemmas.Bool.{false≢true}
+use Rattle.std.{proofs.{Common.{◌≡◌, ℕ, ◌+◌, ◌^◌, ◌<◌, ◌≤◌, eqb, ltb, Bool, true, false, not, ◌&&◌, ◌||◌, cond, List, [], ◌∷◌, length, Option, Some, None, refl, sym, ap, subst, ◌∙◌, inr, arith}, lemmas.Bool.false≢true}, specs.{Prelude.{is_some, is_none}, Option.{IfSome, IfNone, SomeIff}}}
+use Rattle.exec_driver.{proofs.{Words.{and_from, and_parts, cases_Bool}, Endings.{one_changed, one_finished}, Granting.gated_there, Entering.{IsEntered, enters}, Serving.{Eases, Answers, eases_both, eases_is, eases_ring, eases_swept, eases_written, eases_judged, after_reap, reaps_ring, room_still, room_judged, room_ended, keeps_one, like_unscheduled, serves_by, serves_itself, done_itself}, Stepping.{first_in, first_there, first_tells, no_first}, Telling.room_within, Advancing.is_itself}, specs.{Driving.{Driving, request_at, is_enrolled, is_queued, is_full, may_stage_one, has_pending}, Sound.IsSound, Steps.{noted, swept, swept_from, taken_out, queued_or_ended, permitted, ReapsNext, completed_in, lawful_of, if_lawful, expired, told_by_cancel, timed_out, cancelling, ended, Grants, StagesOne, with_staged, entered, lower, lowest_gate}, Turns.{Serves, StaysDone, waiting, unreaped, unstaged, made_way, may_wait}, declared.driver.{reaping.Reaped.Reaped, staging.Granted.Granted}}}
+use Rattle.exec_lists.{proofs.Names.fewer_without, specs.Lists.{has_first, first_of, rest_of, without, after_due, after_queued}}
 use Rattle.exec_base.specs.{Slab.{Slab, written}, declared.slab.Id.Id}
 use Rattle.exec_outcomes.specs.{Accounts.Account, declared.outcome.OpResult.OpResult}
 use Rattle.exec_request.specs.{States.asks_cancel, declared.results.WaiterState.WaiterState}
-use Rattle.exec_ring.specs.{Completions.{result_in}, Kernels.{is_quiet, has_none, next_completion, next_in, posted_left, wakes_left, reaped}, declared.completion.{Completion.Completion, Posted.Posted}}
-use Rattle.exec_waiters.specs.{Events.{cancelled, with_permit}, States.{waiter_at, flying_count, tick_in, file_of, gate_in}, Told.Tells, declared.{deferred.Deferred.Deferred, waiter.{Waiter.Waiter, Entry.{Entry, TheVariants.Pending}}, waiter_id.WaiterId.WaiterId}}
-use Rattle.exec_waiters.proofs.Changes.{one_if}
-use Rattle.exec_driver.specs.{Driving.{Driving, request_at, is_enrolled, is_queued, is_full, may_stage_one, has_pending}, Sound.IsSound, Steps.{noted, swept, swept_from, taken_out, queued_or_ended, permitted, ReapsNext, completed_in, lawful_of, if_lawful, expired, told_by_cancel, timed_out, cancelling, ended, Grants, StagesOne, with_staged, entered, lower, lowest_gate}, Turns.{Serves, StaysDone, waiting, unreaped, unstaged, made_way, may_wait}, declared.driver.{reaping.Reaped.Reaped, staging.Granted.Granted}}
-use Rattle.exec_lists.specs.Lists.{has_first, first_of, rest_of, without, after_due, after_queued}
+use Rattle.exec_ring.specs.{Completions.result_in, Kernels.{is_quiet, has_none, next_completion, next_in, posted_left, wakes_left, reaped}, declared.completion.{Completion.Completion, Posted.Posted}}
+use Rattle.exec_waiters.{specs.{Events.{cancelled, with_permit}, States.{waiter_at, flying_count, tick_in, file_of, gate_in}, Told.Tells, declared.{deferred.Deferred.Deferred, waiter.{Waiter.Waiter, Entry.{Entry, TheVariants.Pending}}, waiter_id.WaiterId.WaiterId}}, proofs.Changes.one_if}
 use Rattle.exec_opens.specs.Opens.{OpenState, account_in}
 
 -- HOW MANY COMPLETIONS

@@ -1,6 +1,5 @@
 -- What keeps a wheel settled: whose deadline comes is due.
-use Rattle.std.specs.Prelude.{◌≡◌, ℕ, ◌<◌, ◌≤◌, false, Option, Some, None}
-use Rattle.std.specs.List.{Contains}
+use Rattle.std.specs.{Prelude.{◌≡◌, ℕ, ◌<◌, ◌≤◌, false, Option, Some, None}, List.Contains}
 use Rattle.exec_time.specs.Wheel.{IsSettled, least_active, slot_of}
 use Rattle.exec_waiters.specs.{States.tick_of, declared.waiter_id.WaiterId.WaiterId}
 use Rattle.exec_driver.specs.Driving.{Driving, request_at}

@@ -1,13 +1,11 @@
 //! Worked examples of what calls do to a driver, proved by computation.
 
 ghost use Rattle.std.specs.Prelude.{◌≡◌, ℕ, [], ◌∷◌, Some, None, Ok, Err, true, false};
-ghost use Rattle.exec_base.specs.Slab.{value_at};
-ghost use Rattle.exec_base.specs.declared.error.Cause.TheVariants as cause;
-ghost use Rattle.exec_base.specs.declared.error.Error.TheVariants as error;
-ghost use Rattle.exec_request.specs.declared.output.RequestOutput.TheVariants as output;
+ghost use Rattle.exec_base.specs.{Slab.value_at, declared.error.{Cause.Cause as cause, Error.Error as error}};
+ghost use Rattle.exec_request.specs.declared.output.RequestOutput.{RequestOutput as output};
 ghost use Rattle.exec_ring.specs.Completions.{acknowledged, wake_completion, completed};
 ghost use Rattle.exec_outcomes.specs.declared.outcome.OpResult.TheVariants.{Count, Errno};
-ghost use Rattle.exec_waiters.specs.{Examples.{poll, sync}, declared.{waiter.Entry.TheVariants.{Ready}, deferred.Deferred.Deferred}};
+ghost use Rattle.exec_waiters.specs.{Examples.{poll, sync}, declared.{waiter.Entry.TheVariants.Ready, deferred.Deferred.Deferred}};
 ghost use Rattle.exec_driver.specs.{Driving.may_stage_one, Steps.{cancelled_at, let_go, cancel_staged, cancel_entry, poll_staged, entered, noted, completed_in, is_control, is_turn_of, tick_for, lowest_gate}, Service.{ServesInOrder, reached}, Turns.{may_wait, finds_busy, is_taken, is_calm}, Examples.{first, wheel, idle, with_one, flying}};
 ghost use Rattle.exec_lists.specs.Lists.{no_lists};
 

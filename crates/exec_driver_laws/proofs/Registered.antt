@@ -1,10 +1,8 @@
 -- What registrations do to the driver of a worker, as calls of it.
 use Rattle.std.proofs.Common.{◌≡◌, ℕ, List, refl, sym, ap, subst}
-use Rattle.exec_driver_laws.{proofs.Words.{value_at, TaskNo, Store, Request, Observation, Refresh, seen_by, Observer, RequestOutput, OpenState, WaiterId, Driving}, specs.{Sharing.{Gates, Call, Admit, Observe, SetWaker, Forward as Sent, Orphan, Other, with_lines}}}
-use Rattle.exec_registration.specs.{Admissions.{IsKept, TakesIn}, Homes.HomeState, Looks.{after_look, with_task, without_output}, Mail.{Cancels, Forwards}, declared.mail.{Cancel.Cancel, Forward.Forward}}
+use Rattle.exec_driver_laws.{proofs.Words.{value_at, TaskNo, Store, Request, Observation, Refresh, seen_by, Observer, RequestOutput, OpenState, WaiterId, Driving}, specs.Sharing.{Gates, Call, Admit, Observe, SetWaker, Forward as Sent, Orphan, Other, with_lines}}
+use Rattle.exec_registration.specs.{Admissions.{IsKept, TakesIn}, Homes.HomeState, Looks.{after_look, with_task, without_output}, Mail.{Cancels, Forwards}, declared.mail.{Cancel.{Cancel, Cancel as cancel}, Forward.{Forward, Forward as forward}}}
 use Rattle.exec_time.specs.declared.timers.Observation.TheVariants.{Ready, Pending}
-use Rattle.exec_registration.specs.declared.mail.Cancel.TheVariants as cancel
-use Rattle.exec_registration.specs.declared.mail.Forward.TheVariants as forward
 
 module _ {S F : Type 0} where
   abbrev driver_of : HomeState S F → Driving S F

@@ -1,8 +1,7 @@
 -- A run in which worker 3 makes open 1 durable, and states that no call leads to.
 use Rattle.std.specs.Prelude.{ℕ, zero, suc, ◌==◌, ◌||◌, [], ◌∷◌, Option, Some, Ok, if◌then◌else◌}
 use Rattle.exec_outcomes.specs.Accounts.{fresh_account}
-use Rattle.exec_request.specs.States.{Ended}
-use Rattle.exec_request.specs.declared.output.RequestOutput.TheVariants as output
+use Rattle.exec_request.specs.{States.Ended, declared.output.RequestOutput.RequestOutput as output}
 use Rattle.exec_base.specs.declared.slab.Slot.TheVariants.{Live}
 use Rattle.exec_waiters.specs.{Events.with_permit, Examples.{sync, here}, Told.{Told, nothing_told}, declared.waiter.{Waiter.Waiter, Entry.{Entry, TheVariants.Ready}}}
 use Rattle.exec_opens.specs.Opens.{fresh_open, joined, placed, with_account, with_named}

@@ -6,14 +6,10 @@ ghost use Rattle.exec_outcomes.specs.{Accounts.{Account, is_durable}, declared.o
 ghost use Rattle.exec_request.specs.{Requests.{asked_of, deadline_of, gate_of, goes_on_alone, outcome_if_granted, output_of, retired_of}, States.{Ended, asks_cancel}, declared.request.Request.Request};
 ghost use Rattle.exec_ring.specs.declared.completion.Completion.{Completion};
 ghost use Rattle.exec_waiters.specs.{Events.ending_of, Ids.user_data_of, States.{waiter_at, is_flying}, Told.nothing_told, declared.{deferred.Deferred.Deferred, waiter.Waiter.Waiter, waiter_id.WaiterId.WaiterId}};
-ghost use Rattle.exec_driver.specs.{Driving.{Driving, request_at}, Placed.{ListsRequests, HasDeadlines}, Steps.{let_go, without_observer, ended, cancelled_at, told_by_cancel, told_by_end, noted, completed_in, Grants, ReapsNext}};
-ghost use Rattle.exec_driver_laws.specs.Ends.{EndsUnwell, told_in};
-ghost use Rattle.exec_driver.specs.declared.driver.{reaping.Reaped.Reaped, staging.Granted.Granted};
+ghost use Rattle.exec_driver.specs.{Driving.{Driving, request_at}, Placed.{ListsRequests, HasDeadlines}, Steps.{let_go, without_observer, ended, cancelled_at, told_by_cancel, told_by_end, noted, completed_in, Grants, ReapsNext}, declared.driver.{reaping.Reaped.Reaped, staging.Granted.Granted}, Service.{Parks, Reached, ServesInOrder}};
+ghost use Rattle.exec_driver_laws.specs.{Ends.{EndsUnwell, told_in}, Laws.{is_listed, failure_in, failure_at, ShareGates, IsDurableFlight, GoesOnFlying}, Sharing.{Gates, LineUp, Call, CallsOne, AreFresh, IsRun, FailsFrom, end_by, sets_account_of}, Serving.{Calls, IsCalls}};
 ghost use Rattle.exec_lists.specs.Lists.{is_among};
 ghost use Rattle.exec_opens.specs.{Opens.OpenState, declared.opens.WaiterKey.WaiterKey};
-ghost use Rattle.exec_driver_laws.specs.{Laws.{is_listed, failure_in, failure_at, ShareGates, IsDurableFlight, GoesOnFlying}, Sharing.{Gates, LineUp, Call, CallsOne, AreFresh, IsRun, FailsFrom, end_by, sets_account_of}};
-ghost use Rattle.exec_driver.specs.Service.{Parks, Reached, ServesInOrder};
-ghost use Rattle.exec_driver_laws.specs.Serving.{Calls, IsCalls};
 
 use exec_waiters::laws::{
     a_recycled_slot_takes_no_old_completion, a_request_is_resolved_at_most_once,

@@ -1,17 +1,6 @@
 -- What is kept of opens, as operations on them are judged and requests of them end: their lines stay, and the machine keeps the
 -- same of them.
-use Rattle.std.proofs.{Common.{◌≡◌, ℕ, ◌<◌, ◌&&◌, Bool, true, false, List, length, map, Option, Some, None, IsSome, is_some, if◌then◌else◌, refl, sym, ap, subst, ◌∙◌, slice_get, slice_index_or, slice_set}, lemmas.Bool.false≢true}
-use Rattle.std.proofs.Common.{arith}
-use Rattle.exec_outcomes.specs.{Accounts.Account, Outcomes.is_unsupported, declared.outcome.OpResult.OpResult}
-use Rattle.exec_request.specs.{Hints.{without_hint}, Requests.{asked_of, hinted_of, target_of}, declared.{request.Request.Request as Asking}}
-use Rattle.exec_waiters.specs.{States.file_of, declared.waiter.Waiter.Waiter}
-use Rattle.exec_opens.specs.Opens.{OpenState, account_in, keeping, with_account, with_open_in}
-use Rattle.exec_driver.specs.Steps.{open_after}
-use Rattle.exec_machine.specs.{Tests.is_of_file, World.{Open, no_open}}
-use Rattle.exec_parts.{specs.{declared.parts.{mail.Reply.Reply, record.Record.Record}, View.{account_seen, open_seen}}, proofs.Facts.{and_parts, by_number, same_Some, set_elsewhere, set_there}}
-use Rattle.exec_invariants.proofs.Showing.{map_kept, map_set}
-use Rattle.exec_invariants.{specs.Gates.{AreLinedUp, has_hint_at}, proofs.{Hinting.open_there, Lined.{SameLines, accounts_kept, only_line, opens_same}, SparedRecord.there_within}}
-use Rattle.exec_invariants.proofs.Turning.{set_found}
+use Rattle.exec_invariants.{proofs.{Names.{◌≡◌, ℕ, ◌<◌, ◌&&◌, Bool, true, false, List, length, map, Option, Some, None, IsSome, is_some, if◌then◌else◌, refl, sym, ap, subst, ◌∙◌, slice_get, slice_index_or, slice_set, false≢true, arith, Account, is_unsupported, OpResult, without_hint, asked_of, hinted_of, target_of, Asking, file_of, Waiter, OpenState, account_in, keeping, with_account, with_open_in, open_after, is_of_file, Open, no_open, Reply, Record, account_seen, open_seen, and_parts, by_number, same_Some, set_elsewhere, set_there}, Showing.{map_kept, map_set}, Hinting.open_there, Lined.{SameLines, accounts_kept, only_line, opens_same}, SparedRecord.there_within, Turning.set_found}, specs.Gates.{AreLinedUp, has_hint_at}}
 
 -- ONE ACCOUNT
 

@@ -1,10 +1,5 @@
 -- Acts of a polled body that change its slot alone: a pass, a wait for a wake, a yield.
-use Rattle.std.proofs.{Common.{◌≡◌, ◌≢◌, ◌⊎◌, inl, inr, ℕ, ◌&&◌, arith, Bool, true, false, List, [], map, Option, Some, None, IsSome, refl, sym, ap, subst, ◌∙◌, slice_get, slice_index_or, slice_set, if◌then◌else◌}, lemmas.{Bool.{false≢true, eq-eqb}, List.{map-set, set-set}}}
-use Rattle.exec_task.specs.{Phases.{is_polled}, Sight.Sight, declared.{body.{Act.Act, Said.Said}}}
-use Rattle.exec_machine.specs.{Choice.{Choice, Choice.{Plain, Pays}, Payer.ByAct}, declared.{config.ScriptWord.ScriptWord, event.Event.{Event, TheVariants.{Pass, Wake}}, state.{Next.Next, Waiting.Waiting}}, Progress.Plan, Requests.operation_asked, Tasks.{after_waking_word, is_woken_here, waits_for, woken}, Tests.{waits_for_nothing}, Words.{acts, asks_yield, moved_on, next_word}, World.{Own, Task, Common, no_task, task_of}}
-use Rattle.exec_moves.specs.{declared.place.{Place.Place, InPoll.InPoll}, Move.move_act, Poll.act_asked, Seen.{next_in_poll, polls_in}, State.{Moved, Things}}
-use Rattle.exec_parts.{specs.{declared.parts.{record.Record.Record, shared.Shared.Shared, sleeping.SleeperRecord.SleeperRecord, task_slot.TaskSlot.TaskSlot, worker.Worker.Worker}, Polls.yielded_slot, Scripts.{GoesOn, IsAnswered, is_last}, Spots.{Spot, spot_of, standing_at}, View.{Views, own_of, desk_of, common_of, task_seen, spot_by, things_with}, Things.TurnsSlot}, proofs.Facts.{by_number, same_Some, set_there, or_right, and_from}}
-use Rattle.exec_invariants.{specs.{Acting.{ActsAs, HasActed, Performs, StepsOf}, Holding.{holder_of}, Places.{begins_at, hands_on_at, is_pooled_at, joins_at}, Sound.{HasGuest, IsGuest, IsInHand, SoundAt, StopsIn, WaitsAt, acts_next, is_told}, Works.Beside}, proofs.{Here.{IsHere, polled_here}, Pending.{in_poll}, Performing.{performs_passed, performs_yielded, still_performs, wakes_as}, Polling.{home_mine, on_in_poll}, Slots.{Balances, IsEvent, beside_slot, task_there, works_slot}, SlotTasks.{IsAfter, Keeps, Sits, Tasked, guest_tasked, none_in, root_tasked, sound_tasked, stops_own}}}
+use Rattle.exec_invariants.{proofs.{Names.{◌≡◌, ◌≢◌, ◌⊎◌, inl, inr, ℕ, ◌&&◌, arith, Bool, true, false, List, [], map, Option, Some, None, IsSome, refl, sym, ap, subst, ◌∙◌, slice_get, slice_index_or, slice_set, if◌then◌else◌, false≢true, eq-eqb, map-set, set-set, is_polled, Sight, Act, Said, Choice, Plain, Pays, ByAct, ScriptWord, Event, Pass, Wake, Next, Waiting, Plan, operation_asked, after_waking_word, is_woken_here, waits_for, woken, waits_for_nothing, acts, asks_yield, moved_on, next_word, Own, Task, Common, no_task, task_of, Place, InPoll, move_act, act_asked, next_in_poll, polls_in, Moved, Things, Record, Shared, SleeperRecord, TaskSlot, Worker, yielded_slot, GoesOn, IsAnswered, is_last, Spot, spot_of, standing_at, Views, own_of, desk_of, common_of, task_seen, spot_by, things_with, TurnsSlot, by_number, same_Some, set_there, or_right, and_from}, Here.{IsHere, polled_here}, Pending.in_poll, Performing.{performs_passed, performs_yielded, still_performs, wakes_as}, Polling.{home_mine, on_in_poll}, Slots.{Balances, IsEvent, beside_slot, task_there, works_slot}, SlotTasks.{IsAfter, Keeps, Sits, Tasked, guest_tasked, none_in, root_tasked, sound_tasked, stops_own}}, specs.{Acting.{ActsAs, HasActed, Performs, StepsOf}, Holding.holder_of, Places.{begins_at, hands_on_at, is_pooled_at, joins_at}, Sound.{HasGuest, IsGuest, IsInHand, SoundAt, StopsIn, WaitsAt, acts_next, is_told}, Works.Beside}}
 
 -- a root or an ordinary task that its own worker wakes
 pub woken_here : (i : ℕ) (home : Option ℕ) → (home ≡ Some i) ⊎ (home ≡ None) → is_woken_here i home ≡ true
@@ -46,10 +41,9 @@ module _ {B : Type 0} where
       subst (λ n. Tasked q w w.root_ready None s (slice_set s.tasks.items n slot')) (sym same) (root_tasked t InPoll.Act q w w.root_ready s slot slot' sound sits) in
       let other : t ≢ w.root → Tasked (Place.Poll t y) w w.root_ready None s (slice_set s.tasks.items t slot') = λ apart.
       let slot = it.slot in
-      let q : Place = Place.Poll t y in
       let old = (it.ordinary apart).0 in
       let guest : IsGuest y w.index slot' = assumption (on.keeps.home ∙ old.ordinary, on.poller ∙ it.poller, on.cancelled ∙ it.cancelled ∙ sym on.cleared, on.waits, on) in
-      guest_tasked t InPoll.Act q w None s slot slot' sound (record {
+      guest_tasked t InPoll.Act (Place.Poll t y) w None s slot slot' sound (record {
         apart = apart;
         there = it.there;
         keeps = on.keeps;
@@ -131,8 +125,7 @@ module _ {B L : Type 0} (left : B → L) (runs : L → Plan → Option ℕ → T
       let q : Place = Place.Poll t y in
       let slot' = change (acted_slot m.slot m.acts.body') in
       let it : IsHere InPoll.Act t w s = polled_here InPoll.Act t w s h.sound refl in
-      let is : m.slot ≡ it.slot = same_Some m.slot it.slot (sym m.there ∙ it.there) in
-      let stays' : StaysOn y t it.slot slot' = subst (λ o. StaysOn y t o slot') is stays in
+      let stays' : StaysOn y t it.slot slot' = subst (λ o. StaysOn y t o slot') (same_Some m.slot it.slot (sym m.there ∙ it.there)) stays in
       let there : slice_get s1.tasks.items t ≡ Some m.slot' = ap (λ ts. slice_get ts t) m.tasks ∙ set_there s.tasks.items t m.slot' m.slot m.there in
       let items : s'.tasks.items ≡ slice_set s.tasks.items t slot' =
       turns.tasks m.slot' there ∙ ap (λ ts. slice_set ts t (change m.slot')) m.tasks ∙ set-set s.tasks.items t m.slot' (change m.slot') ∙ ap (λ x. slice_set s.tasks.items t (change x)) m.acts.slot in

@@ -1,12 +1,6 @@
 -- What a polled body that acts needs.
-use Rattle.std.proofs.{Common.{◌≡◌, ℕ, ◌<◌, ◌≤◌, ◌^◌, arith, true, false, List, [], ◌∷◌, length, map, Option, Some, IsSome, Result, Ok, Err, refl, sym, ap, subst, ◌∙◌, slice_get, IfOk, OnErr}, lemmas.{List.{length-map, length-set}, Option.slice_get_within}}
+use Rattle.exec_invariants.{proofs.{Names.{◌≡◌, ℕ, ◌<◌, ◌≤◌, ◌^◌, arith, true, false, List, [], ◌∷◌, length, map, Option, Some, IsSome, Result, Ok, Err, refl, sym, ap, subst, ◌∙◌, slice_get, IfOk, OnErr, length-map, length-set, slice_get_within, OpenState, is_polled, Sight, Act, Said, Waiting, Plan, Place, InPoll, numbers_held, Shared, TaskSlot, Worker, Record, is_complete, MadeAct, OfSlot, sight_of, Plays, Spot, body_in, common_of, spot_by, task_seen, account_seen, open_seen, TurnsSlot, same_Some}, Here.{IsHere, going_on, polled_here}, Pending.in_poll, Performing.unacted}, specs.{Acting.{HasActed, PerformsOne}, Hearing.{CanHear, held_once_come}, Sound.{SoundAt, is_told}, Works.Same}}
 pub use Rattle.std.proofs.lemmas.Result.{on_err_weaker}
-use Rattle.exec_opens.specs.Opens.{OpenState}
-use Rattle.exec_task.specs.{Phases.is_polled, Sight.Sight, declared.body.{Act.Act, Said.Said}}
-use Rattle.exec_machine.specs.{declared.state.Waiting.Waiting, Progress.Plan}
-use Rattle.exec_moves.specs.declared.place.{Place.Place, InPoll.InPoll}
-use Rattle.exec_parts.{specs.{Records.numbers_held, declared.parts.{shared.Shared.Shared, task_slot.TaskSlot.TaskSlot, worker.Worker.Worker, record.Record.Record}, Phased.is_complete, Polls.{MadeAct, OfSlot, sight_of}, Scripts.Plays, Spots.{Spot, spot_of}, View.{body_in, common_of, spot_by, task_seen, account_seen, open_seen}, Things.TurnsSlot}, proofs.Facts.same_Some}
-use Rattle.exec_invariants.{specs.{Acting.{HasActed, PerformsOne}, Hearing.{CanHear, held_once_come}, Sound.{SoundAt, is_told}, Works.Same}, proofs.{Here.{IsHere, going_on, polled_here}, Pending.in_poll, Performing.unacted}}
 
 pub kept_any : {A E P : Type 0} (r : Result A E) → P → OnErr r P
 kept_any (Ok a) h = tt
@@ -35,10 +29,9 @@ module _ {B L : Type 0} (left : B → L) (spot : L → Option Said → Spot) (gi
   may_act t w s sound =
       let it : IsHere InPoll.Act t w s = polled_here InPoll.Act t w s sound refl in
       let is : (slot : TaskSlot B) → slice_get s.tasks.items t ≡ Some slot → it.slot ≡ slot = λ slot found. same_Some it.slot slot (sym it.there ∙ found) in
-      let waits : it.slot.waiting ≡ Waiting.Nothing = it.waits in
       record {
         there = slice_get_within s.tasks.items t it.slot it.there;
-        told = λ slot found. subst (λ (o : TaskSlot B). IsSome o.told) (is slot found) (it.told (ap (λ u. is_told u false) waits));
+        told = λ slot found. subst (λ (o : TaskSlot B). IsSome o.told) (is slot found) (it.told (ap (λ u. is_told u false) it.waits));
         body = λ slot found. subst (λ (o : TaskSlot B). IsSome o.body) (is slot found) it.body;
       }
 
@@ -59,7 +52,6 @@ module _ {B L : Type 0} (left : B → L) (runs : L → Plan → Option ℕ → T
       let body : body_in m.slot.cell.phase m.slot.body ≡ Some m.acts.body = in_poll m.slot.cell.phase m.slot.body polled ∙ m.acts.was in
       let going : is_complete m.slot.cell.phase ≡ false = going_on m.slot.cell.phase polled in
       let hears : CanHear m.slot.told m.slot.waiting m.acts.said = subst (λ o. CanHear o m.slot.waiting m.acts.said) (sym m.acts.told) refl in
-      let at_spot : spot (left m.acts.body) (Some m.acts.said) ≡ spot_of (task_seen left spot m.slot) = sym (ap (λ o. spot_by left spot o m.slot.told) body ∙ ap (spot (left m.acts.body)) m.acts.told) in
       let early : w.moments.sampled ≤ 2 ^ 62 = omega (arith, sound.time.not_after, sound.time.bounded) in
       record {
         sound = sound;
@@ -69,13 +61,12 @@ module _ {B L : Type 0} (left : B → L) (runs : L → Plan → Option ℕ → T
             let it = plays p (common_of left spot p vs s) (task_seen left spot m.slot) (sight_of w.moments.sampled (length s.tasks.items) s.stopped s.opens) m.sight (left m.acts.body) (left m.acts.body') m.acts.said a
             (fits.runs_it m.acts.body m.acts.said body hears going) refl refl
             (assumption (early, sym (length-map s.tasks.items (task_seen left spot)), subst (λ n. n ≤ 2 ^ 32) (sym (length-map s.tasks.items (task_seen left spot))) sound.homes.few, sym (accounts_seen s.requests.items s.opens)))
-            m.acts.given at_spot held in
+            m.acts.given (sym (ap (λ o. spot_by left spot o m.slot.told) body ∙ ap (spot (left m.acts.body)) m.acts.told)) held in
             record { asks = it.asks; makes = it.makes; stands = it.stands; covers = it.covers; code = it.code; goes_on = it.goes_on };
         one = (one.0, one.1, one.2 t m.slot m.there);
       }
 
-module _ {B L : Type 0} (left : B → L) (runs : L → Plan → Option ℕ → Type 0) (holds : L → Option Said → List ℕ) (spot : L → Option Said → Spot) (gives : L → Option Sight → Said → Act B → L → Option Sight → Type 0) where
   -- by what act it was
   pub acted_at : Plays left runs holds spot gives → (t : ℕ) (w : Worker) (s s1 : Shared B) (a b : Act B) → a ≡ b → SoundAt (Place.Poll t InPoll.Act) w s → MadeAct left gives t w.moments.sampled s s1 a → PerformsOne left runs holds s
       → HasActed left runs holds spot gives t w s s1 b
-  acted_at plays t w s s1 a b is sound made one = has_acted left runs holds spot gives plays t w s s1 b sound (subst (MadeAct left gives t w.moments.sampled s s1) is made) one
+  acted_at plays t w s s1 a b is sound made one = has_acted plays t w s s1 b sound (subst (MadeAct left gives t w.moments.sampled s s1) is made) one

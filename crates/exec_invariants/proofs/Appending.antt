@@ -1,11 +1,5 @@
 -- What the append of all in the hands to the global queue is to the machine, and why there is a place for each of them.
-use Rattle.std.proofs.{Common.{◌≡◌, ℕ, zero, suc, ◌+◌, ◌<◌, ◌≤◌, inl, inr, Bool, true, false, Contains, List, [], ◌∷◌, ◌++◌, length, Option, None, Some, refl, sym, ap, subst, ◌∙◌, arith, option_to_list, slice_get, option_map, if◌then◌else◌}, lemmas.{Bool.eq-eqb, List.{length-append, map-append, Elements.{Contains-append_cases, Contains-append_left, Contains-append_right}}, Option.slice_get_within}}
-use Rattle.exec_words.specs.Global.{Global, spare_places}
-use Rattle.exec_task.specs.declared.{body.Said.Said, runnable.Runnable.Runnable}
-use Rattle.exec_machine.specs.{declared.event.Event.{Event, TheVariants.Turn}, Choice.Choice.Plain, Progress.Plan}
-use Rattle.exec_moves.specs.{declared.{handing.{AfterPush.AfterPush, InGlobal.InGlobal}, place.Place.Place}, Global.appended_if, Parts.after_push, Push.in_hand, State.{Moved, Things}, Thing.set_global}
-use Rattle.exec_parts.{specs.{declared.parts.{shared.Shared.Shared, task_slot.TaskSlot.TaskSlot, worker.Worker.Worker}, Spots.Spot, Tests.after_push_of, View.{Views, common_of, desk_of, own_of, tasks_of, things_with}}, proofs.Facts.{by_number, not_same, or_right}}
-use Rattle.exec_invariants.{specs.{Sound.SoundAt, Whole.{HasOne, HasWhole, IsGenuine, IsWhole, Profile, may_let_go, runnables_in, stock, with_worker}, Works.{Steps, Suits}}, proofs.{PushLeads.{ArrivesAt, CarriesNone, push_reaches}, Handed.{IsPushFor, PushNext, push_seen}, Flagging.none_of, Onces.{has_at_most, has_fewer}, Pushing.{ordinary}, Queued.hands_of, Queueing.{Reaches, as_many, poses, rehanded, whole_handed}, Thieves.in_both}}
+use Rattle.exec_invariants.{proofs.{Names.{◌≡◌, ℕ, zero, suc, ◌+◌, ◌<◌, ◌≤◌, inl, inr, Bool, true, false, Contains, List, [], ◌∷◌, ◌++◌, length, Option, None, Some, refl, sym, ap, subst, ◌∙◌, arith, option_to_list, slice_get, option_map, if◌then◌else◌, eq-eqb, length-append, map-append, Contains-append_cases, Contains-append_left, Contains-append_right, slice_get_within, Global, spare_places, Said, Runnable, Event, Turn, Plain, Plan, AfterPush, InGlobal, Place, appended_if, after_push, in_hand, Moved, Things, set_global, Shared, TaskSlot, Worker, Spot, after_push_of, Views, common_of, desk_of, own_of, tasks_of, things_with, by_number, not_same, or_right}, PushLeads.{ArrivesAt, CarriesNone, push_reaches}, Handed.{IsPushFor, PushNext, push_seen}, Flagging.none_of, Onces.{has_at_most, has_fewer}, Pushing.ordinary, Queued.hands_of, Queueing.{Reaches, as_many, poses, rehanded, whole_handed}, Thieves.in_both}, specs.{Sound.SoundAt, Whole.{HasOne, HasWhole, IsGenuine, IsWhole, Profile, may_let_go, runnables_in, stock, with_worker}, Works.{Steps, Suits}}}
 
 -- WHERE EACH OF THESE IS BELOW A NUMBER, and none is there twice, they are so few
 
@@ -35,8 +29,7 @@ total_one r (suc n) less =
     omega (arith, here, total_one r n (omega (arith, less, other))))
     (λ same.
     let here : runnables_in n (r ∷ []) ≡ 1 = rw (eq-eqb r.task.0 n same) refl in
-    let below : total (λ t. runnables_in t (r ∷ [])) n ≡ 0 = total_none (λ t. runnables_in t (r ∷ [])) n (λ t under. none_of t r (not_same r.task.0 t (λ is. absurd (omega (arith, under, same, is))))) in
-    omega (arith, here, below))
+    omega (arith, here, total_none (λ t. runnables_in t (r ∷ [])) n (λ t under. none_of t r (not_same r.task.0 t (λ is. absurd (omega (arith, under, same, is)))))))
 
 total_all : (rs : List Runnable) (n : ℕ) → ((r : Runnable) → Contains rs r → r.task.0 < n) → total (λ t. runnables_in t rs) n ≡ length rs
 total_all [] n below = total_none (λ t. runnables_in t []) n (λ t less. refl)
@@ -84,10 +77,8 @@ module _ {B : Type 0} where
           let none : runnables_in t (all_there w s) ≡ 0 =
           not_among t (all_there w s) (λ r among same.
           let it = genuine r among in
-          let found : slice_get s.tasks.items t ≡ Some it.slot = subst (λ n. slice_get s.tasks.items n ≡ Some it.slot) same it.there in
-          let is : it.slot ≡ slot = cc (found, there) in
-          let no : None ≡ Some i = sym it.ordinary ∙ ap (λ (x : TaskSlot B). x.home) is ∙ home in
-          cc (no)) in
+          let is : it.slot ≡ slot = cc (subst (λ n. slice_get s.tasks.items n ≡ Some it.slot) same it.there, there) in
+          cc (sym it.ordinary ∙ ap (λ (x : TaskSlot B). x.home) is ∙ home)) in
           omega (arith, none)
 
       by : (o : Option (TaskSlot B)) → slice_get s.tasks.items t ≡ o → runnables_in t (all_there w s) ≤ 1
@@ -95,8 +86,7 @@ module _ {B : Type 0} where
           let none : runnables_in t (all_there w s) ≡ 0 =
           not_among t (all_there w s) (λ r among same.
           let it = genuine r among in
-          let found : slice_get s.tasks.items t ≡ Some it.slot = subst (λ n. slice_get s.tasks.items n ≡ Some it.slot) same it.there in
-          cc (found, nothing)) in
+          cc (subst (λ n. slice_get s.tasks.items n ≡ Some it.slot) same it.there, nothing)) in
           omega (arith, none)
       by (Some slot) there = by_home slot there slot.home refl
 
@@ -133,18 +123,15 @@ module _ {B L : Type 0} (left : B → L) (spot : L → Option Said → Spot) (b 
       g : Bool → Global Runnable
       g gone = record s.global { values = (if gone then s.global.values else s.global.values ++ all) }
 
-      arrives_at : ArrivesAt w s s
-      arrives_at p armed queue aims batch lets_go phased =
-          record { seated = rw armed sound.seated; queue = λ chair there. queue chair.queue (sound.queue chair there); aims = aims; batch = batch; batch_place = sound.batch_place; lets_go = lets_go; phased = phased }
-
       carries : (gone : Bool) → CarriesNone w (v gone) s
       carries = grind arith
 
-      is : IsPushFor b q
-      is = record { callbacks = refl; closes = refl; closing = refl; spare = refl; bare = refl; held = λ x h. h; batch = λ ms h. h }
-
       to : (gone : Bool) → Reaches q (next gone) w (v gone) s s
-      to true = push_reaches q w (v true) s s arrives_at (carries true) b sound following.comes is refl refl refl refl
+      to true =
+          let arrives_at : ArrivesAt w s s = λ p armed queue aims batch lets_go phased.
+          record { seated = rw armed sound.seated; queue = λ chair there. queue chair.queue (sound.queue chair there); aims = aims; batch = batch; batch_place = sound.batch_place; lets_go = lets_go; phased = phased } in
+          let is : IsPushFor b q = record { callbacks = refl; closes = refl; closing = refl; spare = refl; bare = refl; held = λ x h. h; batch = λ ms h. h } in
+          push_reaches q w (v true) s s arrives_at (carries true) b sound following.comes is refl refl refl refl
       to false =
           record {
             same = refl;
@@ -153,15 +140,13 @@ module _ {B L : Type 0} (left : B → L) (spot : L → Option Said → Spot) (b 
             carries = carries false (Place.Global InGlobal.LoadGlobalSet b) refl refl refl refl sound.pooled sound.serves sound.left sound.told;
           }
 
-      -- what stands in the queue then, as it is seen
-      shows : (gone : Bool) → appended_if gone (tasks_of s.global.values) (tasks_of w.loot.values ++ in_hand (option_map (λ r. r.task.0) w.hand)) ≡ tasks_of (g gone).values
-      shows = grind (arith, hand_seen, map-append)
-
       -- what it leads to there
       seen : (gone : Bool) (p : Plan) (vs : Views) → Suits p vs w s → ◌≡◌ {A = Moved Things} (record { event = Turn; choice = Plain; desk = record (desk_of w) { place = (if gone then after_push p.config w.index (own_of w) (common_of left spot p vs s) b (desk_of w) else Place.Global InGlobal.LoadGlobalSet b); hand = None; loot = [] }; thing = set_global (things_with vs s) (appended_if gone (tasks_of s.global.values) (tasks_of w.loot.values ++ in_hand (option_map (λ r. r.task.0) w.hand))) })
           (record { event = Turn; choice = Plain; desk = desk_of (v gone); thing = set_global (things_with vs s) (tasks_of (g gone).values) })
       seen gone p vs suits =
-          rw (push_seen left spot p vs q w s sound suits.config b (following.seen p vs suits)) (ap (λ ts. record { event = Turn; choice = Plain; desk = desk_of (v gone); thing = set_global (things_with vs s) ts }) (shows gone))
+          -- what stands in the queue then, as it is seen
+          let shows : appended_if gone (tasks_of s.global.values) (tasks_of w.loot.values ++ in_hand (option_map (λ r. r.task.0) w.hand)) ≡ tasks_of (g gone).values = grind (arith, hand_seen, map-append) in
+          rw (push_seen left spot p vs q w s sound suits.config b (following.seen p vs suits)) (ap (λ ts. record { event = Turn; choice = Plain; desk = desk_of (v gone); thing = set_global (things_with vs s) ts }) shows)
 
       done : (gone : Bool) → s.global.closed ≡ gone → ((others : Profile) → IsWhole (with_worker others w) s → IsWhole (with_worker others (v gone)) (record s { global = g gone })) → Steps left spot w s e (v gone) (record s { global = g gone })
       done gone is whole =

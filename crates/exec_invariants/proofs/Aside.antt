@@ -1,12 +1,5 @@
 -- What a step leaves of others: where it changes seats, the idle set and the global queue alone.
-use Rattle.std.proofs.{Common.{◌≡◌, ◌≢◌, inl, ℕ, zero, suc, ◌≤◌, ◌+◌, List, [], ◌∷◌, ◌++◌, length, map, sum_by, Option, Some, false, refl, sym, ap, subst, ◌∙◌, arith, slice_get, slice_set}, lemmas.List.{length-set, Sums.sum_by-cons}}
-use Rattle.exec_words.specs.Queue.{Queue, tail_of}
-use Rattle.exec_task.specs.declared.runnable.Runnable.{Runnable}
-use Rattle.exec_task.specs.declared.body.Said.{Said}
-use Rattle.exec_machine.specs.{declared.{event.Event.{Event, TheVariants.Turn}, state.Next.Next}, Choice.Choice.Plain, Progress.Plan}
-use Rattle.exec_moves.specs.{declared.place.Place.Place, Move.move_at, Seen.{next_at, polls_at, serves_at}, State.Moved}
-use Rattle.exec_parts.{specs.{declared.parts.{record.Record.Record, sleeping.SleeperRecord.SleeperRecord, seat.Seat.Seat as Chair, shared.Shared.Shared, worker.Worker.Worker}, Spots.Spot, View.{Views, common_of, desk_of, own_of, things_with}, Things.{Goes, Makes}}, proofs.Facts.{by_number, set_elsewhere, set_there}}
-use Rattle.exec_invariants.{specs.{Holding.{IsHolding, box_of, holder_of, nap_of, thing_of, Mail}, Kinds.{kind_of, lowered}, Places.{claims_at, drops_at, has_count_at, is_pooled_at, is_published_at}, Spares.{Spares, SparesChair, SparesRecord, SparesSleeper}, Whole.{claimed_count, duties_of, hands_of, IsWhole, may_let_go, Profile, queued, runnables_in, stock, with_worker}, Sound.{SoundAt, has_wakes_at}, Works.{Beside, Steps, Suits}}, proofs.{PoolKept.{KeepsGates, gates_same, pool_seats}, Spared.{records_endure, sleepers_endure}, Turning.{GoesOn, Keeps, Lands, Shares, arrives, by_place, fits_here, turn_alike, turned}}}
+use Rattle.exec_invariants.{proofs.{Names.{◌≡◌, ◌≢◌, inl, ℕ, zero, suc, ◌≤◌, ◌+◌, List, [], ◌∷◌, ◌++◌, length, map, sum_by, Option, Some, false, refl, sym, ap, subst, ◌∙◌, arith, slice_get, slice_set, length-set, sum_by-cons, Queue, tail_of, Runnable, Said, Event, Turn, Next, Plain, Plan, Place, move_at, next_at, polls_at, serves_at, Moved, Record, SleeperRecord, Chair, Shared, Worker, Spot, Views, common_of, desk_of, own_of, things_with, Goes, Makes, by_number, set_elsewhere, set_there}, PoolKept.{KeepsGates, gates_same, pool_seats}, Spared.{records_endure, sleepers_endure}, Turning.{GoesOn, Keeps, Lands, Shares, arrives, by_place, fits_here, turn_alike, turned}}, specs.{Holding.{IsHolding, box_of, holder_of, nap_of, thing_of, Mail}, Kinds.{kind_of, lowered}, Places.{claims_at, drops_at, has_count_at, is_pooled_at, is_published_at}, Spares.{Spares, SparesChair, SparesRecord, SparesSleeper}, Whole.{claimed_count, duties_of, hands_of, IsWhole, may_let_go, Profile, queued, runnables_in, stock, with_worker}, Sound.{SoundAt, has_wakes_at}, Works.{Beside, Steps, Suits}}}
 
 -- SEATS
 
@@ -162,7 +155,6 @@ module _ {B : Type 0} where
   pub whole_moved : (x : Profile) (mail : Mail → ℕ) (s s' : Shared B) → Shares s s' → KeepsGates s.seats.items s'.seats.items → map queue_of_chair s'.seats.items ≡ map queue_of_chair s.seats.items
       → HoldsIn (record x { mail = mail }) s s'.seats.items → s'.idle ≡ s.idle → s'.global ≡ s.global → IsWhole x s → IsWhole (record x { mail = mail }) s'
   whole_moved x mail s s' shares gates queues holding idle global whole =
-      let many : length s'.seats.items ≡ length s.seats.items = length_same s.seats.items s'.seats.items queues in
       let tasks : s'.tasks.items ≡ s.tasks.items = ap (λ (z : Shared B). z.tasks.items) shares in
       let set : s'.set ≡ s.set = ap (λ (z : Shared B). z.set) shares in
       let stocks : (t : ℕ) → stock t s' ≡ stock t s = λ t. rw (stock_same t s.seats.items s'.seats.items queues, global) refl in
@@ -184,7 +176,7 @@ module _ {B : Type 0} where
         queued_there = λ r has. rw tasks (whole.queued_there r (rw (← global) has));
         places = rw (tasks, global) whole.places;
         made = λ t more. rw (stocks t) (whole.made t (subst (λ ts. length ts ≤ t) tasks more));
-        unclaimed = λ j more. whole.unclaimed j (subst (λ n. n ≤ j) many more);
+        unclaimed = λ j more. whole.unclaimed j (subst (λ n. n ≤ j) (length_same s.seats.items s'.seats.items queues) more);
         in_pool = λ j chair there. let was = gates.back j chair there in rw config (was.2.pool ∙ whole.in_pool j was.0 was.1);
         pool = rw (tasks, set) (pool_seats (duties_of x) s.tasks.items s.set s.seats.items s'.seats.items gates whole.pool);
         gates = rw (ap (λ (z : Shared B). z.opens) shares, ap (λ (z : Shared B). z.requests) shares) whole.gates;

@@ -1,11 +1,5 @@
 -- A TASK IS ABOUT TO ASK another worker for an end: that worker's inbox is open, has a place, and what tasks hold once it is asked.
-use Rattle.std.proofs.{Common.{◌≡◌, ◌≢◌, inl, ℕ, ◌+◌, ◌<◌, ◌≤◌, Bool, true, false, cond, List, [], ◌∷◌, count_by, length, map, Some, None, IsSome, refl, sym, ap, subst, ◌∙◌, arith, slice_get, slice_set, option_map}, lemmas.{Bool.{false≢true}, Option.slice_get-map}}
-use Rattle.std.proofs.lemmas.Bool.{lt-ltb}
-use Rattle.exec_words.specs.{Inbox.is_wake_root, declared.inbox.Message.{Message}}
-use Rattle.exec_machine.specs.{declared.state.Forwarding.{Forwarding, TheVariants.{Sent as Forwarded}}, Tests.is_unsent}
-use Rattle.exec_moves.specs.declared.place.{InPoll.InPoll, Place.Place}
-use Rattle.exec_parts.{specs.declared.parts.{mail.Subject.Subject, seat.Seat.Seat as Chair, shared.Shared.Shared, task_slot.TaskSlot.TaskSlot, worker.Worker.Worker}, proofs.Facts.false_from_ne_true}
-use Rattle.exec_invariants.{specs.{Holding.{Box, Hands, Holder, IsAbout, IsForwarded, IsHolding, IsOrdinary, Mail, Nap, Thing, box_of, mail_in, same_mail, under_way}, Sound.SoundAt, Whole.HasWhole}, proofs.{HoldMail.{mail_is, is_never, is_once, sum_least}, HoldPosts.{has_place, with_mail}, HoldSleeps.nap_redone, Slots.before_for}}
+use Rattle.exec_invariants.{proofs.{Names.{◌≡◌, ◌≢◌, inl, ℕ, ◌+◌, ◌<◌, ◌≤◌, Bool, true, false, cond, List, [], ◌∷◌, count_by, length, map, Some, None, IsSome, refl, sym, ap, subst, ◌∙◌, arith, slice_get, slice_set, option_map, false≢true, slice_get-map, lt-ltb, is_wake_root, Message, Forwarding, ForwardSent as Forwarded, is_unsent, InPoll, Place, Subject, Chair, Shared, TaskSlot, Worker, false_from_ne_true}, HoldMail.{mail_is, is_never, is_once, sum_least}, HoldPosts.{has_place, with_mail}, HoldSleeps.nap_redone, Slots.before_for}, specs.{Holding.{Box, Hands, Holder, IsAbout, IsForwarded, IsHolding, IsOrdinary, Mail, Nap, Thing, box_of, mail_in, same_mail, under_way}, Sound.SoundAt, Whole.HasWhole}}
 
 -- what isn't asked for is in no inbox
 pub none_sent : (shut : Bool) (f : Forwarding) (n : ℕ) → shut ≡ false → is_unsent f ≡ true → IsForwarded shut f n → n ≡ 0
@@ -30,8 +24,7 @@ module _ {B : Type 0} where
   pool_open t x w s slot sound has there ordinary j chair at_j few =
       false_from_ne_true chair.mailbox.inbox.closed (λ closed.
       let before = before_for t x w s slot sound there ordinary in
-      let pool : chair.pool ≡ true = has.whole.in_pool j chair at_j ∙ lt-ltb j s.config.workers few in
-      false≢true (sym before.going ∙ has.whole.pool.shut j chair at_j pool closed w.index before.chair before.there))
+      false≢true (sym before.going ∙ has.whole.pool.shut j chair at_j (has.whole.in_pool j chair at_j ∙ lt-ltb j s.config.workers few) closed w.index before.chair before.there))
 
 -- A SLEEPER IS ASKED FOR
 module _ (h : Hands) (workers : ℕ) (hs : List Holder) (ts : List Thing) (naps : List Nap) (boxes : List Box) (n : ℕ) (z : Nap) where
@@ -70,5 +63,4 @@ module _ (h : Hands) (workers : ℕ) (hs : List Holder) (ts : List Thing) (naps 
   asks_place there unsent few box at open_box old =
       let m : Mail = Message.Forward (Subject.Timer n) in
       let none = none_sent box.shut z.forwarding (under_way h m boxes) open_box unsent (old.woken n z box there at) in
-      let least = sum_least (λ (b : Box). mail_in m b.messages) boxes z.worker box at in
-      has_place h workers hs ts naps boxes z.worker m box at (z, there, refl, few) old open_box (omega (arith, none, least)) refl
+      has_place h workers hs ts naps boxes z.worker m box at (z, there, refl, few) old open_box (omega (arith, none, sum_least (λ (b : Box). mail_in m b.messages) boxes z.worker box at)) refl

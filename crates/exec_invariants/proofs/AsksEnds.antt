@@ -1,11 +1,5 @@
 -- A POLLED TASK ASKS for the end of its sleeper that another worker has.
-use Rattle.std.proofs.{Common.{◌≡◌, ◌≢◌, ◌⊎◌, inl, inr, ℕ, ◌<◌, ◌==◌, Bool, true, false, not, map, Option, Some, None, refl, sym, ap, subst, ◌∙◌, arith, slice_get, slice_set, option_map, if◌then◌else◌}, lemmas.{Bool.{false≢true, eq-eqb}, List.map-set, Option.{get_or_from_slice_get, slice_get-map, slice_get_within}}}
-use Rattle.exec_words.specs.declared.inbox.Message.{Message}
-use Rattle.exec_task.specs.declared.body.Said.{Said}
-use Rattle.exec_machine.specs.{declared.{event.Event.{Event, TheVariants.{Closed, GotTimer, Send}}, state.{Forwarding.{Forwarding, TheVariants.{Sent as Forwarded, Unsent}}, MailMessage.TheVariants.ForwardTimer, Waiting.Waiting}}, Mail.posted as seat_posted, Progress.Plan, Tests.{is_unsent, waits_for_timer}, World.{Task, no_seat, seat_of, sleeper_of, task_of}}
-use Rattle.exec_moves.specs.{declared.{handing.AfterSend.AfterSend, place.{InPoll.InPoll, Place.Place}}, Move.move_look_at, Poll.{Sight.{Asks, HearsTimer}, acts_on, pend, resume, sight_by, sight_of}, State.{Moved, Things, does}, Thing.aside}
-use Rattle.exec_parts.{specs.{declared.parts.{mail.Subject.Subject, seat.Seat.Seat as Chair, shared.Shared.Shared, sleeping.SleeperRecord.SleeperRecord, task_slot.TaskSlot.TaskSlot, worker.Worker.Worker}, Calls.sleeper_forwarded, MailPosts.AsksEnd, Pooled.{Sends, asks_if_sent, chair_sent}, Spots.Spot, View.{Views, common_of, desk_of, numbers_of_passing, own_of, seat_seen, seats_seen, task_seen, things_with}}, proofs.Facts.{by_number, false_from_ne_true, not_same, same_Some, set_there}}
-use Rattle.exec_invariants.{specs.{Holding.{Holder, IsAbout, IsHolding, IsOrdinary, MayHave, awaited_in, box_of, holder_of, nap_of, thing_of}, Sound.{MayStop, SoundAt}, Spares.SparesSleeper, Whole.{HasWhole, Profile, hands_of, with_worker}, Works.{Steps, Suits, Works}}, proofs.{AskBoxes.{asks_place, box_there, nap_asked, pool_open}, Here.IsHere, HoldBeside.Holds, HoldPosts.{posted, with_mail}, HoldThings.{Touches, touches_sleeper}, LetterPosts.{chair_open, forwards_timer, open_spares, sent_open}, Lined.passing_same, Polling.home_mine, Seats.seat_there, Seen.sleeper_at, Slots.task_there, SparedRecord.there_within, TaskAsks.{Posts, asked, asked_works, led_to, leads_to, to_pend}, TaskDeals.{Dealt, ends as to_end, from_look}, TaskHears.hears_same, TaskTakes.{holder_there, nap_there}, Turning.set_found}}
+use Rattle.exec_invariants.{proofs.{Names.{◌≡◌, ◌≢◌, ◌⊎◌, inl, inr, ℕ, ◌<◌, ◌==◌, Bool, true, false, not, map, Option, Some, None, refl, sym, ap, subst, ◌∙◌, arith, slice_get, slice_set, option_map, if◌then◌else◌, false≢true, eq-eqb, map-set, get_or_from_slice_get, slice_get-map, slice_get_within, Message, Said, Event, Shut as Closed, GotTimer, Send, Forwarding, ForwardSent as Forwarded, Unsent, ForwardTimer, Waiting, seat_posted, Plan, is_unsent, waits_for_timer, Task, no_seat, seat_of, sleeper_of, task_of, AfterSend, InPoll, Place, move_look_at, Asks, HearsTimer, acts_on, pend, resume, sight_by, seen_of as sight_of, Moved, Things, does, aside, Subject, Chair, Shared, SleeperRecord, TaskSlot, Worker, sleeper_forwarded, AsksEnd, Sends, asks_if_sent, chair_sent, Spot, Views, common_of, desk_of, numbers_of_passing, own_of, seat_seen, seats_seen, task_seen, things_with, by_number, false_from_ne_true, not_same, same_Some, set_there}, AskBoxes.{asks_place, box_there, nap_asked, pool_open}, Here.IsHere, HoldBeside.Holds, HoldPosts.{posted, with_mail}, HoldThings.{Touches, touches_sleeper}, LetterPosts.{chair_open, forwards_timer, open_spares, sent_open}, Lined.passing_same, Polling.home_mine, Seats.seat_there, Seen.sleeper_at, Slots.task_there, SparedRecord.there_within, TaskAsks.{Posts, asked, asked_works, led_to, leads_to, to_pend}, TaskDeals.{Dealt, ends as to_end, from_look}, TaskHears.hears_same, TaskTakes.{holder_there, nap_there}, Turning.set_found}, specs.{Holding.{Holder, IsAbout, IsHolding, IsOrdinary, MayHave, awaited_in, box_of, holder_of, nap_of, thing_of}, Sound.{MayStop, SoundAt}, Spares.SparesSleeper, Whole.{HasWhole, Profile, hands_of, with_worker}, Works.{Steps, Suits, Works}}}
 
 pub is_unsent_so : (f : Forwarding) → is_unsent f ≡ true → f ≡ Unsent
 is_unsent_so = grind arith
@@ -60,7 +54,6 @@ module _ {B L : Type 0} (left : B → L) (spot : L → Option Said → Spot) whe
       let x = things_with vs s in
       let b : AfterSend = AfterSend.Pend t in
       let seen : task_of all t ≡ task_seen left spot slot = task_there left spot s.tasks.items t slot there in
-      let what : (task_of all t).waiting ≡ Waiting.Timer z = ap (λ y. y.waiting) seen ∙ waits in
       let sleeper : sleeper_of all z ≡ it.shown = sleeper_at s.sleepers.items z it at_z in
       let apart : (j == w.index) ≡ false = not_same j w.index other in
       let asleep : Task = record (task_seen left spot slot) { waiting = Waiting.Timer z } in
@@ -76,7 +69,7 @@ module _ {B L : Type 0} (left : B → L) (spot : L → Option Said → Spot) whe
       (ap looks seen ∙ ap (λ u. looks (record (task_seen left spot slot) { waiting = u })) waits
       ∙ ap (λ y. move_look_at p.config all d x t b (aside x (if y.fired then does (GotTimer z) (acts_on t d) asleep else pend w.index t all d asleep)) (sight_by (is_unsent y.forwarding) (y.worker == w.index) (Asks y.worker (ForwardTimer z)) (HearsTimer z))) sleeper
       ∙ ap (λ u. finds u (j == w.index)) unsent ∙ ap (finds true) apart) (
-        ap (waits_for_timer z) what ∙ eq-eqb z z refl,
+        ap (waits_for_timer z) (ap (λ y. y.waiting) seen ∙ waits) ∙ eq-eqb z z refl,
         (ap (λ y. y.worker == j) sleeper ∙ eq-eqb j j refl, (ap not apart, (ap (λ y. is_unsent y.forwarding) sleeper ∙ unsent, (ap (λ y. not y.mailbox_closed) seat ∙ ap not open_box, tt)))),
       )
       (own_there (asks_if_sent (ForwardTimer z) chair.mailbox)) refl
@@ -121,26 +114,22 @@ module _ {B L : Type 0} (left : B → L) (spot : L → Option Said → Spot) whe
       let stop : MayStop w.index (Waiting.Timer z) mid.requests.items mid.sleepers.items = (sleeper_forwarded it, ap (λ zs. slice_get zs z) sleepers ∙ set_there s.sleepers.items z (sleeper_forwarded it) it at_z, inl refl) in
       let to : Dealt InPoll.Pend w.index slot slot mid.requests.items mid.sleepers.items = grind arith in
       let worker : w' ≡ record w { place = led_to t InPoll.Pend b j (asks_if_sent (ForwardTimer z) chair.mailbox) } = sends.worker chair mid_there ∙ ap (λ q. record w { place = q }) (leads_to t InPoll.Pend b (to_pend t) mid.config j (asks_if_sent (ForwardTimer z) chair.mailbox) (desk_of w)) in
-      let event : e ≡ Send j (ForwardTimer z) = sends.event chair mid_there ∙ ap (λ c. if c then Closed else Send j (ForwardTimer z)) whom.open_box in
       let held : (others : Profile) → Holds (with_worker others w) s → Holds (with_worker others w) s' = λ others old.
       let h = hands_of (with_worker others w) in
       let ordinary : IsOrdinary it.shown.task hs = subst (λ u. IsOrdinary u hs) (sym whom.task) (record { it = holder_of slot; there = holder_there s.tasks.items t slot at.there; home = whom.ordinary }) in
       let homes : (u : ℕ) (o : Holder) → slice_get hs u ≡ Some o → o.awaits ≡ Some (Subject.Timer z) → o.home ≡ None = λ u o at_u awaits.
       let asleep = old.asleep u o z at_u awaits in
-      let is : asleep.0 ≡ nap_of it = same_Some asleep.0 (nap_of it) (sym asleep.1 ∙ at_nap) in
-      let mine : t ≡ u = sym whom.task ∙ ap (λ x. x.task) (sym is) ∙ asleep.2.task in
-      let so : o ≡ holder_of slot = same_Some o (holder_of slot) (sym at_u ∙ ap (slice_get hs) (sym mine) ∙ holder_there s.tasks.items t slot at.there) in
-      ap (λ (y : Holder). y.home) so ∙ whom.ordinary in
+      let mine : t ≡ u = sym whom.task ∙ ap (λ x. x.task) (sym (same_Some asleep.0 (nap_of it) (sym asleep.1 ∙ at_nap))) ∙ asleep.2.task in
+      ap (λ (y : Holder). y.home) (same_Some o (holder_of slot) (sym at_u ∙ ap (slice_get hs) (sym mine) ∙ holder_there s.tasks.items t slot at.there)) ∙ whom.ordinary in
       let naps' = slice_set naps z (nap_of (sleeper_forwarded it)) in
       let asked_for : IsHolding (with_mail (Message.Forward (Subject.Timer z)) h) s.config.workers hs ts naps' boxes = nap_asked h s.config.workers hs ts naps boxes z (nap_of it) at_nap unsent whom.silent whom.few ordinary homes old in
       let about : IsAbout s.config.workers j (Message.Forward (Subject.Timer z)) ts naps' = (nap_of (sleeper_forwarded it), set_there naps z (nap_of (sleeper_forwarded it)) (nap_of it) at_nap, refl, whom.few) in
       let there : IsHolding h s.config.workers hs ts naps' (slice_set boxes j (box_of chair')) = posted h s.config.workers hs ts naps' boxes j (Message.Forward (Subject.Timer z)) (box_of chair) at_box about asked_for in
-      let all : s' ≡ record s { sleepers = mid.sleepers; seats = s'.seats } = sends.kept ∙ ap (λ (y : Shared B). record y { seats = s'.seats }) by.kept in
       let same_naps : map nap_of mid.sleepers.items ≡ naps' = ap (map nap_of) sleepers ∙ map-set nap_of s.sleepers.items z (sleeper_forwarded it) in
       let same_boxes : map box_of s'.seats.items ≡ slice_set boxes j (box_of chair') = ap (map box_of) set ∙ map-set box_of s.seats.items j chair' in
-      subst (Holds (with_worker others w)) (sym all)
+      subst (Holds (with_worker others w)) (sym (sends.kept ∙ ap (λ (y : Shared B). record y { seats = s'.seats }) by.kept))
       (subst (λ xs. IsHolding h s.config.workers hs ts xs (map box_of s'.seats.items)) (sym same_naps) (subst (λ xs. IsHolding h s.config.workers hs ts naps' xs) (sym same_boxes) there)) in
       let done : Steps left spot w s (Send j (ForwardTimer z)) w' s' =
       asked left spot InPoll.Resume InPoll.Pend b t j (ForwardTimer z) (forwards_timer z) w w' s mid s' (Send j (ForwardTimer z)) slot chair whom.open_box (from_look t) (to_end t) (to_pend t) sound at worker midkept items sends.kept posts touches to (hears_same slot) held
       (λ p vs suits. end_works t z w s mid s' slot it chair whom.open_box sound.here at.there waits at_z unsent other by.kept sleepers sends.kept posts p vs suits) in
-      subst (λ y. Steps left spot w s y w' s') (sym event) done
+      subst (λ y. Steps left spot w s y w' s') (sym (sends.event chair mid_there ∙ ap (λ c. if c then Closed else Send j (ForwardTimer z)) whom.open_box)) done

@@ -1,10 +1,5 @@
 -- What a task waits for and holds as its poll begins.
-use Rattle.std.proofs.{Common.{◌≡◌, ℕ, Bool, true, false, List, Some, None}}
-use Rattle.std.proofs.Common.{arith}
-use Rattle.exec_machine.specs.{declared.state.{Waiting.Waiting, Next.Next}, Tasks.begun_waiting}
-use Rattle.exec_moves.specs.{declared.place.Place.Place, Poll.after_begin, Seen.{next_in_poll, polls_in}}
-use Rattle.exec_parts.specs.declared.parts.{record.Record.Record, sleeping.SleeperRecord.SleeperRecord}
-use Rattle.exec_invariants.specs.{Holding.awaited_in, Places.{begins_at, hands_on_at, is_pooled_at, joins_at}, Sound.{StopsIn, WaitsAt, acts_next, is_told}}
+use Rattle.exec_invariants.{proofs.Names.{◌≡◌, ℕ, Bool, true, false, List, Some, None, arith, Waiting, Next, begun_waiting, Place, after_begin, next_in_poll, polls_in, Record, SleeperRecord}, specs.{Holding.awaited_in, Places.{begins_at, hands_on_at, is_pooled_at, joins_at}, Sound.{StopsIn, WaitsAt, acts_next, is_told}}}
 
 -- WHAT A POLL BEGINS WITH
 

@@ -1,11 +1,6 @@
 -- What stands behind in a list of completions, and what is left of it once all of no operation before the first of an operation
 -- was dropped.
-use Rattle.std.proofs.{Common.{◌≡◌, ℕ, suc, ◌+◌, ◌≤◌, ◌==◌, ◌&&◌, ◌||◌, Bool, true, false, not, List, [], ◌∷◌, map, filter, Option, Some, None, refl, sym, ap, ◌∙◌, arith, nat_le, if◌then◌else◌}, lemmas.{Bool.{Decides.nat_tests}, List.length-map}}
-use Rattle.exec_ring.specs.{Completions.is_wake, declared.completion.Completion.Completion}
-use Rattle.exec_driver.specs.Steps.{is_control, armed_after}
-use Rattle.exec_moves.specs.State.{is_dropped, others_left, told_left}
-use Rattle.exec_parts.specs.View.{trailing, trails_wake, operations_in, is_end, behind_end}
-use Rattle.exec_invariants.specs.Flown.{ends_in}
+use Rattle.exec_invariants.{proofs.Names.{◌≡◌, ℕ, suc, ◌+◌, ◌≤◌, ◌==◌, ◌&&◌, ◌||◌, Bool, true, false, not, List, [], ◌∷◌, map, filter, Option, Some, None, refl, sym, ap, ◌∙◌, arith, if◌then◌else◌, nat_tests, length-map, is_wake, Completion, is_control, armed_after, is_dropped, others_left, told_left, trailing, trails_wake, operations_in, is_end, behind_end}, specs.Flown.ends_in}
 
 abbrev pub is_op : Completion → Bool
 is_op c = not (is_control c)
@@ -74,17 +69,11 @@ behind_most (c ∷ cs) n h = by (is_end c) refl (is_control c) refl (λ some. be
     by : (b : Bool) → is_end c ≡ b → (x : Bool) → is_control c ≡ x → (behind_end cs ≡ Some n → n ≤ operations_in cs) → n ≤ operations_in (c ∷ cs)
     by = grind arith
 
-le_self : (n : ℕ) → nat_le n n ≡ true
-le_self n = grind (arith, nat_tests)
-
-le_less : (m n : ℕ) → m ≤ n → nat_le (suc n) m ≡ false
-le_less m n h = grind (arith, nat_tests)
-
 module _ (f : Completion → ℕ) where
   -- whether the end stands before the first operation, by how many have landed behind it
   pub dropped_first : (cs : List Completion) → is_dropped (map f (filter is_op cs)) (behind_end cs) ≡ ends_first cs
   dropped_first [] = refl
-  dropped_first (c ∷ cs) = grind (arith, length-map, le_less, behind_most, end_controls, le_self, dropped_first cs)
+  dropped_first (c ∷ cs) = grind (arith, length-map, nat_tests, behind_most, end_controls, dropped_first cs)
 
   pub ended_after : (cs : List Completion) → ends_in cs ≤ 1 → behind_end (after_controls cs) ≡ (if ends_first cs then None else behind_end cs)
   ended_after [] few = refl
@@ -97,10 +86,6 @@ module _ (f : Completion → ℕ) where
   ends_after [] few = refl
   ends_after (c ∷ cs) few = by (is_control c) refl (is_end c) refl (λ h. ends_after cs h)
     where
-      plus_none : (b : Bool) (n : ℕ) → (if b then 0 else n) ≡ (if b then 0 else (0 + n))
-      plus_none true n = refl
-      plus_none false n = omega arith
-
       by : (x : Bool) → is_control c ≡ x → (b : Bool) → is_end c ≡ b → (ends_in cs ≤ 1 → ends_in (after_controls cs) ≡ (if ends_first cs then 0 else ends_in cs)) → ends_in (after_controls (c ∷ cs)) ≡ (if ends_first (c ∷ cs) then 0 else ends_in (c ∷ cs))
       by = grind arith
 

@@ -1,34 +1,7 @@
 -- Where the callbacks lead once an item is told: for a worker, for the machine, and after a push of a task that one woke.
-use Rattle.std.proofs.{Common.{◌≡◌, ℕ, ◌+◌, ◌==◌, ◌&&◌, Bool, true, false, not, List, [], ◌∷◌, length, Option, Some, None, refl, sym, ap, subst, ◌∙◌, arith, slice_get, if◌then◌else◌}, lemmas.Bool.{false≢true, Decides.nat_tests}}
-use Rattle.std.proofs.lemmas.List.{nil_from_length}
-use Rattle.exec_base.specs.{Slab.live_count}
-use Rattle.exec_words.specs.Queue.{Queue}
-use Rattle.exec_waiters.specs.{States.pending_count, Told.is_untold, declared.deferred.{Deferred.Deferred}}
-use Rattle.exec_driver.specs.Driving.{is_full as is_ring_full}
-use Rattle.exec_task.specs.declared.{body.Said.Said, runnable.Runnable.Runnable}
-use Rattle.exec_machine.specs.{declared.config.Configuration.Configuration, Progress.Plan, Ranges.ring_size, Tests.is_empty}
-use Rattle.exec_moves.specs.{declared.{handing.{AfterCallbacks.AfterCallbacks, AfterKick.AfterKick, AfterPush.AfterPush, InKick.InKick}, idling.{InRingWait.InRingWait, Stay.Stay}, place.{InCallbacks.InCallbacks, InClosing.InClosing, InLoads.InLoads, Place.Place, Round.Round}}, Callback.{after_callbacks, has_callbacks, has_requests, is_full, next_callback}}
-use Rattle.exec_parts.{specs.{declared.parts.{mail.Reply.Reply, seat.Seat.Seat as Chair, shared.Shared.Shared, worker.Worker.Worker}, Phased.{IsPhased, closes_at, stage_of}, Roles.is_pool, Calls.IsTold, Spots.Spot, Tests.{after_callbacks_of, has_open_requests, is_anything_told, next_callback_of, ring_wait_of}, View.{Views, common_of, desk_of, driver_of, own_of}}, proofs.Facts.{not-false, zero_false, true_false}}
-use Rattle.exec_moves.specs.Seen.{left_before}
-use Rattle.exec_invariants.{specs.{HoldPlaces.{is_bare_at, is_bare_before, spare_before}, Sound.{Aims, HasQueue, LetsGo, SoundAt}, Names.{HasWidth, tellers}, Works.Suits}, proofs.{DedicatedSeen.pool_seen, Handed.{CallComes, IsPushFor, out}, Idled.{Comes}, Phased.phased_end, Standing.requests_seen}}
-use Rattle.exec_invariants.proofs.Untold.{empty_map, positive_there, none_of}
+use Rattle.exec_invariants.{proofs.{Names.{◌≡◌, ℕ, ◌+◌, ◌==◌, Bool, true, false, not, List, [], ◌∷◌, length, Option, Some, None, refl, sym, ap, subst, ◌∙◌, arith, slice_get, if◌then◌else◌, nat_tests, nil_from_length, live_count, Queue, pending_count, is_untold, Deferred, is_ring_full, Said, Runnable, Configuration, Plan, ring_size, is_empty, AfterCallbacks, AfterKick, AfterPush, InKick, InRingWait, Stay, InCallbacks, InClosing, Place, after_callbacks, has_callbacks, has_requests, is_full, next_callback, Reply, Chair, Shared, Worker, IsPhased, closes_at, stage_of, IsTold, Spot, after_callbacks_of, has_open_requests, is_anything_told, next_callback_of, Views, common_of, desk_of, driver_of, own_of, not-false, zero_false, true_false, left_before, is_pool, InLoads, Round, ring_wait_of}, DedicatedSeen.pool_seen, Handed.{CallComes, IsPushFor, out}, Idled.Comes, Phased.phased_end, Standing.requests_seen, Untold.{empty_map, positive_there, none_of}}, specs.{HoldPlaces.{is_bare_at, is_bare_before, spare_before}, Sound.{Aims, HasQueue, LetsGo, SoundAt}, Names.{HasWidth, tellers}, Works.Suits}}
 
 -- NOTHING IS LEFT
-
-first_zero : (a b c d e : ℕ) → ((a == 0) && (b == 0) && (c == 0) && (d == 0) && (e == 0)) ≡ true → a ≡ 0
-first_zero a b c d e h = grind (arith, nat_tests)
-
-second_zero : (a b c d e : ℕ) → ((a == 0) && (b == 0) && (c == 0) && (d == 0) && (e == 0)) ≡ true → b ≡ 0
-second_zero a b c d e h = grind (arith, nat_tests)
-
-third_zero : (a b c d e : ℕ) → ((a == 0) && (b == 0) && (c == 0) && (d == 0) && (e == 0)) ≡ true → c ≡ 0
-third_zero a b c d e h = grind (arith, nat_tests)
-
-fourth_zero : (a b c d e : ℕ) → ((a == 0) && (b == 0) && (c == 0) && (d == 0) && (e == 0)) ≡ true → d ≡ 0
-fourth_zero a b c d e h = grind (arith, nat_tests)
-
-fifth_zero : (a b c d e : ℕ) → ((a == 0) && (b == 0) && (c == 0) && (d == 0) && (e == 0)) ≡ true → e ≡ 0
-fifth_zero a b c d e h = grind (arith, nat_tests)
 
 pub record NoneLeft (left : Deferred Reply Reply) : Type 0 where
   pub wakes : left.notes.wakes.items ≡ []
@@ -38,7 +11,7 @@ pub record NoneLeft (left : Deferred Reply Reply) : Type 0 where
   pub results : length left.results.items ≡ 0
 
 pub none_left : (left : Deferred Reply Reply) → is_untold left ≡ true → NoneLeft left
-none_left = grind (arith, nil_from_length, first_zero, second_zero, third_zero, fourth_zero, fifth_zero)
+none_left = grind (arith, nil_from_length, nat_tests)
 
 -- then the lists have all their places
 pub all_places : (ended : List ℕ) (left : Deferred Reply Reply) (n m : ℕ) → IsTold ended left m → HasWidth left n → NoneLeft left → IsTold ended left n
@@ -97,15 +70,13 @@ module _ {B : Type 0} where
 
   pushed_here : (n : AfterCallbacks) (q : Place) (w : Worker) (s : Shared B) → SoundAt q w s → IsPushFor (AfterPush.CallBack n) q → Pushed n w s
   pushed_here n q w s sound is =
-      let lets : is_bare_at q ≡ true → live_count w.home.timers ≡ 0 = subst (λ c. LetsGo c (is_bare_at q) (driver_of w).requests w.home.timers) is.closing sound.lets_go in
-      let told = subst (λ k. IsTold w.names.ended.items w.home.deferred (tellers (driver_of w).requests w.home.timers + k)) is.spare sound.told in
-      let bare : is_bare_before (Some n) ≡ true → live_count w.home.timers ≡ 0 = λ h. lets (is.bare ∙ h) in
+      let bare : is_bare_before (Some n) ≡ true → live_count w.home.timers ≡ 0 = λ h. (subst (λ c. LetsGo c (is_bare_at q) (driver_of w).requests w.home.timers) is.closing sound.lets_go) (is.bare ∙ h) in
       let batch : is_bare_before (Some n) ≡ true → w.batch.values ≡ [] = λ h. is.batch w.batch.values sound.batch (is.bare ∙ h) in
       let held : (chair : Chair) → slice_get s.seats.items w.index ≡ Some chair → chair.queue.held ≡ [] = λ chair there. is.held chair.queue (sound.queue chair there) in
       let phased : (chair : Chair) → slice_get s.seats.items w.index ≡ Some chair → IsPhased w.index (left_before n) None w.home.closing w.root w.names.unreleased (stage_of chair s) s.tasks.items = λ chair there.
       subst (λ b. IsPhased w.index b None w.home.closing w.root w.names.unreleased (stage_of chair s) s.tasks.items) is.closes
       (subst (λ c. IsPhased w.index (closes_at q) c w.home.closing w.root w.names.unreleased (stage_of chair s) s.tasks.items) is.closing (sound.phased chair there)) in
-      assumption (told, bare, batch, held, phased, sound, sound.over)
+      assumption (subst (λ k. IsTold w.names.ended.items w.home.deferred (tellers (driver_of w).requests w.home.timers + k)) is.spare sound.told, bare, batch, held, phased, sound, sound.over)
 
   -- the next item
   pub to_call : (n : AfterCallbacks) (w : Worker) (s : Shared B) → Pushed n w s → is_anything_told w ≡ true → To n (Place.Callbacks InCallbacks.CallBack n) w s
@@ -115,8 +86,7 @@ module _ {B : Type 0} where
   to_end : (w : Worker) (s : Shared B) → Pushed AfterCallbacks.Finish w s → NoneLeft w.home.deferred → has_open_requests w ≡ false → To AfterCallbacks.Finish (Place.Closing InClosing.End) w s
   to_end w s it none closed =
       let zero_by : (k : ℕ) → not (k == 0) ≡ false → k ≡ 0 = λ k h. grind (arith, nat_tests) in
-      let over : pending_count (driver_of w).requests ≡ 0 = zero_by (pending_count (driver_of w).requests) closed in
-      let all : w.names.unreleased ≡ 0 = omega (arith, it.counted, over, none.resources, it.told.resources) in
+      let all : w.names.unreleased ≡ 0 = omega (arith, it.counted, zero_by (pending_count (driver_of w).requests) closed, none.resources, it.told.resources) in
       record {
         to = record { same = refl; searches = refl; counts = refl; published = refl; queue = it.held; aims = tt; batch = λ h. it.batch refl; quiet = λ h. true_false h; left = tt; told = it.told; lets_go = λ h. it.bare refl; phased = λ chair there. phased_end w.index w.home.closing w.root w.names.unreleased w.names.unreleased (stage_of chair s) s.tasks.items all (it.phased chair there) };
         queue = λ x h. h;
@@ -125,45 +95,15 @@ module _ {B : Type 0} where
 
   pub to_after : (n : AfterCallbacks) (w : Worker) (s : Shared B) → Pushed n w s → NoneLeft w.home.deferred → To n (after_callbacks_of n w) w s
   to_after AfterCallbacks.Look w s it none =
-      either AfterCallbacks.Look (is_pool w.role) (Place.Loads InLoads.LoadOwnHead Round.First) (Place.Loads (InLoads.LoadOwnWord (record { ready = false })) Round.First) w s
-      (λ h. record {
-        to = record { same = refl; searches = tt; counts = refl; published = refl; queue = it.held; aims = tt; batch = λ no. absurd (false≢true no); quiet = λ h. none.wakes; left = tt; told = it.told; lets_go = λ no. absurd (false≢true no); phased = it.phased };
-        queue = λ x h. h;
-        aims = λ c i seats. tt;
-      })
-      (λ h. record {
-        to = record { same = refl; searches = tt; counts = refl; published = refl; queue = it.held; aims = tt; batch = λ no. absurd (false≢true no); quiet = λ h. none.wakes; left = tt; told = it.told; lets_go = λ no. absurd (false≢true no); phased = it.phased };
-        queue = λ x h. h;
-        aims = λ c i seats. tt;
-      })
+      either AfterCallbacks.Look (is_pool w.role) (Place.Loads InLoads.LoadOwnHead Round.First) (Place.Loads (InLoads.LoadOwnWord (record { ready = false })) Round.First) w s (λ h. grind arith) (λ h. grind arith)
   to_after AfterCallbacks.Test w s it none =
       let told = all_places w.names.ended.items w.home.deferred (tellers (driver_of w).requests w.home.timers + 64) _ it.told it.wide none in
-      either AfterCallbacks.Test (is_pool w.role) (Place.Loads InLoads.LoadOwnHead Round.Second) (Place.Loads (InLoads.LoadOwnWord (record { ready = false })) Round.Second) w s
-      (λ h. record {
-        to = record { same = refl; searches = tt; counts = refl; published = refl; queue = it.held; aims = tt; batch = λ no. absurd (false≢true no); quiet = λ h. none.wakes; left = tt; told = told; lets_go = λ no. absurd (false≢true no); phased = it.phased };
-        queue = λ x h. h;
-        aims = λ c i seats. tt;
-      })
-      (λ h. record {
-        to = record { same = refl; searches = tt; counts = refl; published = refl; queue = it.held; aims = tt; batch = λ no. absurd (false≢true no); quiet = λ h. none.wakes; left = tt; told = told; lets_go = λ no. absurd (false≢true no); phased = it.phased };
-        queue = λ x h. h;
-        aims = λ c i seats. tt;
-      })
+      either AfterCallbacks.Test (is_pool w.role) (Place.Loads InLoads.LoadOwnHead Round.Second) (Place.Loads (InLoads.LoadOwnWord (record { ready = false })) Round.Second) w s (λ h. grind (arith, told)) (λ h. grind (arith, told))
   to_after AfterCallbacks.Begin w s it none = grind arith
   to_after AfterCallbacks.Drain w s it none = grind arith
   to_after AfterCallbacks.Finish w s it none =
       either AfterCallbacks.Finish (has_open_requests w) (ring_wait_of Stay.Closing w) (Place.Closing InClosing.End) w s
-      (λ some. either AfterCallbacks.Finish (is_ring_full (driver_of w)) (Place.RingWait InRingWait.EnterFullRing Stay.Closing) (Place.RingWait InRingWait.TestRing Stay.Closing) w s
-      (λ h. record {
-        to = record { same = refl; searches = refl; counts = refl; published = refl; queue = it.held; aims = tt; batch = λ h. it.batch refl; quiet = λ h. none.wakes; left = tt; told = it.told; lets_go = λ h. it.bare refl; phased = it.phased };
-        queue = λ y h. h;
-        aims = λ c i seats. tt;
-      })
-      (λ h. record {
-        to = record { same = refl; searches = refl; counts = refl; published = refl; queue = it.held; aims = tt; batch = λ h. it.batch refl; quiet = λ h. none.wakes; left = tt; told = it.told; lets_go = λ h. it.bare refl; phased = it.phased };
-        queue = λ y h. h;
-        aims = λ c i seats. tt;
-      }))
+      (λ some. either AfterCallbacks.Finish (is_ring_full (driver_of w)) (Place.RingWait InRingWait.EnterFullRing Stay.Closing) (Place.RingWait InRingWait.TestRing Stay.Closing) w s (λ h. grind arith) (λ h. grind arith))
       (λ closed. to_end w s it none closed)
 
   pub call_comes : (n : AfterCallbacks) (q : Place) (w : Worker) (s : Shared B) → SoundAt q w s → IsPushFor (AfterPush.CallBack n) q → CallComes n w s

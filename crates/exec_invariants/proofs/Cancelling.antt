@@ -1,16 +1,42 @@
 -- A deadline that has come cancels its request, which the kernel has.
-use Rattle.std.{proofs.{Common.{◌⊎◌, ⊎_elim, ◌++◌, ◌||◌, ◌≡◌, ℕ, ◌==◌, Bool, true, false, List, [], ◌∷◌, map, Option, Some, None, refl, sym, ap, subst, ◌∙◌, arith, inl, is_some, slice_set, if◌then◌else◌}, lemmas.{Bool.false≢true, List.{append-nil, map-append}}}, specs.Prelude.slice_get}
-use Rattle.exec_base.specs.{Slab.value_at, declared.{slab.Id.Id, error.Error.TheVariants.Timeout}}
-use Rattle.exec_outcomes.specs.declared.outcome.Outcome.TheVariants.{Failure}
-use Rattle.exec_request.specs.{Requests.{asked_of, deadline_of}}
-use Rattle.exec_waiters.{specs.{Events.{cancelled as cancelled_of, told_by_finish}, States.{needs_permit, takes_tick, tick_in, flying_count, waiter_at}, Told.{Tells, nothing_told}, declared.{waiter.{Entry.TheVariants.Pending, Waiter.Waiter}, waiter_id.WaiterId.WaiterId}}, proofs.Changes.entry_of}
-use Rattle.exec_driver.specs.{Driving.Driving, Punctual.IsPunctual, Steps.{cancelling, told_by_cancel, timed_out}}
-use Rattle.exec_lists.{specs.Lists.{first_of, is_among, is_same, after_due}, proofs.Names.same_tells}
-use Rattle.exec_task.specs.declared.body.Said.{Said}
-use Rattle.exec_machine.specs.{declared.{event.Event.{Event, TheVariants.Expire}, state.RequestPhase.RequestPhase}, Deadlines.{expired, outcome_at_expiry}, Same.same_end, Tests.{is_kept, is_staged}, World.{Common, request_of}}
-use Rattle.exec_moves.specs.{Submit.{due_next, first_due, Due.Expires}, declared.place.{Place.Place, InService.InService}}
-use Rattle.exec_parts.{specs.{declared.parts.{mail.Reply.Reply, names.Names.Names, record.Record.Record, shared.Shared.Shared, worker.Worker.Worker}, Records.number_in, Serving.{changed_at, is_one_of}, Spots.Spot, View.{visible, with_view, own_of, desk_of, driver_of, common_of, seat_seen, numbers_of}}, proofs.Facts.by_name}
-use Rattle.exec_invariants.{specs.{Due.IsWheelAt, Flown.{HasFlown, operations, AreLanded}, Holding.{nap_of, thing_of}, Places.passes_at, Names.{IsAlike, IsSubmitted}, Sound.served_in, Submits.{IsDueIn, IsInOrder}, Works.Steps}, proofs.{Enrolled.timed_kept, Serving.{at_large, balances_still, SparesRecords, spares_one}, ServingHolds.{serves_to, IsServed, OthersKept, keeps_home, Serves, Keeps, KeepsBy}, Recorded.request_seen, Flown.landed_on, Known.known_written, Lined.{map_changed, opens_same}, Marking.{known_then, mark_if, mark_kept, marked, plain_kept, was_marked}, Slotted.{awaited_written, slots_written}, Carries.carried_still, Changing.{OneGoesOn, all_go_one, changes_one, flying_after, keeps_one}, Going.{GoesOn, owning_on}, Seeing.{shows, served, common_changed, common_same, things_kept}, Staging.stages_again, Timed.keeps_untold, Expiring.{HasExpired, comes_to_due, due_first, expires, flies_not_queued, same_change, told_first, unticked_start, unticked_tick}, Expired.expiry_ends, Resolving.unticked_at, Orders.{alike_unticked, eased, eases_written, part_after, part_self}}}
+use Rattle.exec_invariants.{proofs.{Names.{◌⊎◌, ⊎_elim, ◌++◌, ◌||◌, ◌≡◌, ℕ, ◌==◌, Bool, true, false, List, [], ◌∷◌, map, Option, Some, None, refl, sym, ap, subst, ◌∙◌, arith, inl, is_some, slice_set, if◌then◌else◌, false≢true, append-nil, map-append, slice_get, value_at, Id, Timeout, Failure, asked_of, deadline_of, cancelled_of, told_by_finish, needs_permit, takes_tick, tick_in, flying_count, waiter_at, Tells, nothing_told, Pending, Waiter, WaiterId, entry_of, Driving, IsPunctual, cancelling, told_by_cancel, timed_out, first_of, is_among, is_same, after_due, same_tells, Said, Event, Expire, RequestPhase, expired, outcome_at_expiry, same_end, is_kept, Common, request_of, first_due, Place, InService, Reply, Names, Record, Shared, Worker, number_in, changed_at, Spot, visible, with_view, own_of, desk_of, driver_of, common_of, seat_seen, numbers_of, by_name, Err, Error, finished, unscheduled, rest_of, without, withdrawn, is_queued as is_phase_queued, joined_if}, Enrolled.timed_kept, Serving.{at_large, balances_still, SparesRecords, spares_one}, ServingHolds.{serves_to, IsServed, OthersKept, keeps_home, Serves, Keeps, KeepsBy}, Recorded.request_seen, Flown.landed_on, Known.known_written, Lined.{map_changed, opens_same}, Marking.{mark_if, mark_kept, marked, plain_kept, was_marked, submitted_kept}, Slotted.{awaited_written, slots_written}, Carries.carried_still, Changing.{OneGoesOn, all_go_one, changes_one, flying_after, keeps_one}, Going.{GoesOn, owning_on}, Seeing.{shows, served, common_changed, common_same, things_kept}, Staging.{stages_again, split_first}, Timed.keeps_untold, Expiring.{HasExpired, comes_to_due, due_first, expires, flies_not_queued, same_change, told_first, unticked_start, unticked_tick}, Resolving.unticked_at, Orders.{alike_unticked, eased, eases_written, part_after, part_self}, Late.{ends_as, same_error_self, late_ends}, Ends.without_first, Starting.queued_phase, Results.same_error_self}, specs.{Flown.{HasFlown, operations, AreLanded}, Holding.{nap_of, thing_of}, Places.passes_at, Names.{IsAlike, IsSubmitted}, Sound.served_in, Submits.{IsDueIn, IsInOrder}, Works.Steps}}
+
+module _ {B L : Type 0} (left : B → L) (spot : L → Option Said → Spot) where
+  pub expiry_ends : (w w' : Worker) (s s' : Shared B) (e : Event) (id : WaiterId) → (new : IsDueIn w s) → IsInOrder w s → (first : first_of (driver_of w).lists.due ≡ Some id) → (due_first w s new id first).it.in_flight ≡ false → HasExpired w w' s s' e id (due_first w s new id first).r → Steps left spot w s e w' s'
+  expiry_ends w w' s s' e id new order first idle by =
+      let v = new.submits.service in
+      let gate = new.submits.gate in
+      let sound = new.submits.sound in
+      let d = driver_of w in
+      let k = number_in w.names.requests.items id.0 in
+      let who = due_first w s new id first in
+      let it = who.it in
+      let w0 : Worker = record w { place = Place.Service (InService.Submit gate) v } in
+      let outcome = Failure Timeout in
+      let error : Error = Timeout in
+      let queued : who.r.shown.phase ≡ RequestPhase.Queued = queued_phase who.r.shown.phase (who.alike.flying ∙ idle) who.alike.open_still who.ungated in
+      let ends : outcome_at_expiry who.r.shown ≡ Some outcome = ap (λ x. if is_phase_queued x then Some outcome else None) queued in
+      let others = rest_of d.lists.due in
+      let dues : without id others ≡ without id d.lists.due = sym (ap (without id) (split_first id d.lists.due first) ∙ without_first id others) in
+      let driver : driver_of w' ≡ record d { requests = finished d.requests id.0 it (Err error) None; wheel = unscheduled d.wheel (tick_in it.state); lists = withdrawn id d.lists } = grind (arith, by.driver, who.live, idle, dues) in
+      let tells : Tells w.home.deferred w'.home.deferred (told_by_finish id.0 it (Err error) None) =
+      subst (λ x. Tells w.home.deferred w'.home.deferred x)
+      (ap (told_by_cancel id) who.live ∙ ap (λ b. if b then nothing_told else told_by_finish id.0 it timed_out None) idle) by.tells in
+      let ended_by : w'.names.ended.items ≡ w.names.ended.items ++ k ∷ [] = by.ended ∙ ap (λ o. joined_if (is_some o) w.names.ended.items k) ends in
+      let records : s'.requests.items ≡ changed_at s.requests.items k (ends_as outcome) = by.records ∙ same_change s.requests.items k who.r expires (ends_as outcome) who.there (ap (λ o. record who.r { shown = expired o who.r.shown }) ends) in
+      subst (λ x. Steps left spot w s x w' s') (sym (by.event ∙ ap (Expire k) ends))
+      (late_ends left spot gate v w w' s s' (Expire k (Some outcome)) id it who.r error sound new.submits.lists who.live who.there who.named who.worker who.alike who.small idle who.dated queued driver by.punctual tells ended_by by.capacity records by.worker by.shared
+      (λ p vs suits.
+      let cp = p.config in
+      let all = common_of left spot p vs s in
+      let request : request_of all k ≡ who.r.shown = request_seen s.requests.items k who.r who.there in
+      let found : first_due cp w.index (own_of w0) all ≡ Some k = subst (λ x. first_due x w.index (own_of w0) all ≡ Some k) suits.config (order id first) in
+      record {
+        moves = grind (arith, comes_to_due cp w.index gate k (own_of w0) all (desk_of w0) found, request, ends);
+        may = (at_large _ w s sound refl, (told_first cp (own_of w0) w.index all.requests k found, (ap (same_end (Some outcome)) (ap outcome_at_expiry request ∙ ends) ∙ same_error_self error, tt)));
+        own = refl;
+        common = refl;
+      }))
 
 -- THE LIST
 
@@ -56,17 +82,7 @@ module _ {B : Type 0} (w : Worker) (s : Shared B) (new : IsDueIn w s) (id : Wait
   cancels_on = record { same = refl; over = refl; ended = λ h. refl }
 
   submitted_cancelled : IsSubmitted w.index w.names.staged.items w.names.untold.items (driver_of w).ring cancelled_records
-  submitted_cancelled =
-      let rs = s.requests.items in
-      let k = number_in w.names.requests.items id.0 in
-      let sub = new.submits.sound.named.submitted in
-      let own : (k : ℕ) (x : Record) → is_one_of k w.names.staged.items ≡ true → slice_get cancelled_records k ≡ Some x → x.shown.worker ≡ w.index =
-      λ j x h found. let old = was_marked cancels rs k j x found in ap (λ y. y.shown.worker) old.2 ∙ mark_kept ℕ (λ x. x.shown.worker) cancels (λ x. refl) (k == j) old.0 ∙ sub.own j old.0 h old.1 in
-      let all : (k : ℕ) (x : Record) → slice_get cancelled_records k ≡ Some x → x.shown.worker ≡ w.index → is_staged x.shown.phase ≡ true → is_one_of k w.names.staged.items ≡ true = λ j x found mine staged.
-      let old = was_marked cancels rs k j x found in
-      sub.all j old.0 old.1 (sym (mark_kept ℕ (λ x. x.shown.worker) cancels (λ x. refl) (k == j) old.0) ∙ sym (ap (λ y. y.shown.worker) old.2) ∙ mine)
-      (sym (ap is_staged (mark_kept RequestPhase (λ x. x.shown.phase) cancels (λ x. refl) (k == j) old.0)) ∙ sym (ap (λ y. is_staged y.shown.phase) old.2) ∙ staged) in
-      assumption (known_then cancels rs k w.names.staged.items sub.known, own, all, sub)
+  submitted_cancelled = submitted_kept cancels s.requests.items (number_in w.names.requests.items id.0) (λ r. refl) (λ r. refl) w.index w.names.staged.items w.names.untold.items (driver_of w).ring new.submits.sound.named.submitted
 
   flown_cancelled : HasFlown (served_in (Place.Service (InService.Submit new.submits.gate) new.submits.service)) w.index w.names cancelled_driver cancelled_records
   flown_cancelled =
@@ -79,7 +95,6 @@ module _ {B : Type 0} (w : Worker) (s : Shared B) (new : IsDueIn w s) (id : Wait
       let it' = cancelled_waiter in
       let flown = new.submits.sound.flown in
       let changed = changes_one d.requests id.0 it it' who.live in
-      let all = all_go_one rs k cancels who.r who.there cancels_on in
       let gated : (id : WaiterId) (it : Waiter Reply Reply) → waiter_at cancelled_driver.requests id.0 ≡ Some it → needs_permit it ≡ true → is_among id cancelled_driver.lists.gated ≡ true = λ other x live needs.
       by_name other.0 id.0 (λ apart. flown.gated other x (sym (changed.others other.0 apart) ∙ live) needs)
       (λ eq.
@@ -112,14 +127,13 @@ module _ {B : Type 0} (w : Worker) (s : Shared B) (new : IsDueIn w s) (id : Wait
       let uncancelled : (id : WaiterId) (r : Record) → is_among id cancelled_driver.lists.cancels ≡ true → slice_get cancelled_records (number_in w.names.requests.items id.0) ≡ Some r → r.shown.worker ≡ w.index → r.shown.cancel_staged ≡ false = λ other x among found mine.
       let j = number_in w.names.requests.items other.0 in
       let old = was_marked cancels rs k j x found in
-      let mine_then = sym (mark_kept ℕ (λ y. y.shown.worker) cancels (λ y. refl) (k == j) old.0) ∙ sym (ap (λ y. y.shown.worker) old.2) ∙ mine in
       ap (λ y. y.shown.cancel_staged) old.2 ∙ mark_kept Bool (λ x. x.shown.cancel_staged) cancels (λ x. refl) (k == j) old.0
-      ∙ ⊎_elim (λ before. flown.uncancelled other old.0 before old.1 mine_then)
+      ∙ ⊎_elim (λ before. flown.uncancelled other old.0 before old.1 (sym (mark_kept ℕ (λ y. y.shown.worker) cancels (λ y. refl) (k == j) old.0) ∙ sym (ap (λ y. y.shown.worker) old.2) ∙ mine))
       (λ same.
       let both : old.0 ≡ who.r = cc (old.1, who.there, ap (number_in w.names.requests.items) same) in
       ap (λ y. y.shown.cancel_staged) both ∙ untold_by who.r.shown.cancel_staged who.r.shown.cancelled (who.alike.cancelled ∙ who.unasked) who.alike.told_once)
       (among_last other id d.lists.cancels among) in
-      assumption (gated, plain, landed_so, owning_on rs cancelled_records all flown.owning, enrolling, uncancelled, flown)
+      assumption (gated, plain, landed_so, owning_on rs cancelled_records (all_go_one rs k cancels who.r who.there cancels_on) flown.owning, enrolling, uncancelled, flown)
 
   keeps_cancelled : IsPunctual cancelled_driver
       → KeepsBy (record w { place = Place.Service (InService.Submit new.submits.gate) new.submits.service }) cancelled_driver w.home.timers cancelled_records s.sleepers.items s
@@ -131,11 +145,10 @@ module _ {B : Type 0} (w : Worker) (s : Shared B) (new : IsDueIn w s) (id : Wait
       let d = driver_of w in
       let who = due_first w s new id first in
       let it = who.it in
-      let wheel : IsWheelAt s.config w.moments.start w.moments.sampled d.wheel = sound.due.wheel in
       let one : OneGoesOn w.names w.names d cancelled_driver s.requests.items id.0 it cancelled_waiter who.r cancels = grind (arith, alike_cancelled, unticked_start, unticked_tick) in
       keeps_one q q w.put_off w.names w s cancelled_driver id.0 it cancelled_waiter who.r cancels sound (stages_again gate v) one punctual (λ h. absurd (false≢true (sym h)))
       (eased (eases_written d.requests id.0 it cancelled_waiter who.live (λ t is. absurd (cc)) (λ none. refl)) (alike_unticked d.wheel (tick_in it.state)) (part_self d.lists.enrolments) (part_after id d.lists.due) sound.due.order)
-      (unticked_at s.config w.moments.start w.moments.sampled d.wheel (tick_in it.state) wheel) refl submitted_cancelled flown_cancelled
+      (unticked_at s.config w.moments.start w.moments.sampled d.wheel (tick_in it.state) sound.due.wheel) refl submitted_cancelled flown_cancelled
       (carried_still w.names.requests.items d.requests d.ring s.requests.items s.store sound.carried id.0 it cancelled_waiter who.live refl (number_in w.names.requests.items id.0) cancels (λ r there. refl) (λ r there. refl) (λ r there. refl))
       refl
       (known_written w.index w.names.requests.items d.requests s.opens s.opens s.requests.items (number_in w.names.requests.items id.0) cancels (λ y. record { id = refl; worker = refl; kind = refl; target = refl; unrefused = λ h. h }) (λ file h. h) id.0 it cancelled_waiter who.r refl who.live who.there (inl (λ h. inl h)) sound.known)
@@ -173,22 +186,19 @@ module _ {B L : Type 0} (left : B → L) (spot : L → Option Said → Spot) whe
       let there : w'.place ≡ q = ap (λ x. x.place) same ∙ sound.here in
       let same2 : w' ≡ w2 = same ∙ ap (λ y. record w { place = y; home = record w.home { driver = w'.home.driver; deferred = deferred } }) sound.here in
       let kept : KeepsBy w0 d' w.home.timers rs' s.sleepers.items s = keeps_cancelled w s new id first flies (subst IsPunctual driver by.punctual) in
-      let untold : KeepsBy w1 d' w.home.timers rs' s.sleepers.items s = keeps_untold w0 d' w.home.timers rs' s.sleepers.items s deferred tells kept in
-      let keeps : Keeps w' s' = keeps_home w1 w' s s' rs' d' same2 by.shared driver records untold in
+      let keeps : Keeps w' s' = keeps_home w1 w' s s' rs' d' same2 by.shared driver records (keeps_untold w0 d' w.home.timers rs' s.sleepers.items s deferred tells kept) in
       let serves : Serves q w w' s s' = serves_to q q w w' s s' (subst (IsServed w) (sym same) refl) (subst (OthersKept s) (sym by.shared) refl) there (stages_again gate v) in
       let show = shows q w w' s s' d' serves driver (ap (λ (x : Worker). x.home.timers) same) in
       let seen : visible w' ≡ visible w = show.seen in
       let spares : SparesRecords w.index s s' = spares_one w.index s s' k who.r cancels (opens_same s.opens s'.opens s.requests.items sound.gates (ap (λ (y : Shared B). y.opens) by.shared)) (record { at = refl; over = λ h. h; sent = refl; forwarded = λ h. h }) records (ap (λ (y : Shared B). y.sleepers.items) by.shared) who.there who.worker (λ y. refl) in
       let wakes : deferred.notes.wakes.items ≡ w.home.deferred.notes.wakes.items = tells.notes.wakes_added ∙ append-nil w.home.deferred.notes.wakes.items in
-      let outputs : deferred.outputs.items ≡ w.home.deferred.outputs.items = tells.outputs_added ∙ append-nil w.home.deferred.outputs.items in
       let completions : deferred.notes.completions.items ≡ w.home.deferred.notes.completions.items = tells.notes.completions_added ∙ append-nil w.home.deferred.notes.completions.items in
       let results : deferred.results.items ≡ w.home.deferred.results.items = tells.results_added ∙ append-nil w.home.deferred.results.items in
       let was = entry_of (value_at d.requests id.0) it who.live in
       let slots = slots_written w.names.requests.items d.requests id.0 (Pending it) (Pending it') was in
       let awaited = awaited_written w.names.requests.items d.requests id.0 (Pending it) (Pending it') was refl in
       let flying : flying_count d'.requests ≡ flying_count d.requests =
-      let n = flying_after d.requests id.0 it it' who.live in
-      omega (arith, n) in
+      omega (arith, flying_after d.requests id.0 it it' who.live) in
       let numbers : numbers_of w.names.requests.items (d.lists.cancels ++ id ∷ []) ≡ numbers_of w.names.requests.items d.lists.cancels ++ k ∷ [] = map-append (λ (x : WaiterId). number_in w.names.requests.items x.0) d.lists.cancels (id ∷ []) in
       subst (λ x. Steps left spot w s x w' s') (sym (by.event ∙ ap (Expire k) ends))
       (served left spot q w w' s s' (Expire k None) sound serves keeps spares (balances_still q w w' s s' sound.here serves spares (ap passes_at there) (ap (λ (x : Worker). x.home.deferred.notes.wakes.items) same ∙ wakes) (ap (map thing_of) records ∙ map_changed thing_of rs k who.r cancels who.there refl) (ap (λ (y : Shared B). map nap_of y.sleepers.items) by.shared))
@@ -197,10 +207,9 @@ module _ {B L : Type 0} (left : B → L) (spot : L → Option Said → Spot) whe
       let all = common_of left spot p vs s in
       let request : request_of all k ≡ who.r.shown = request_seen rs k who.r who.there in
       let found : first_due cp w.index (own_of w0) all ≡ Some k = subst (λ x. first_due x w.index (own_of w0) all ≡ Some k) suits.config (order id first) in
-      let due : due_next cp w.index gate (own_of w0) all (desk_of w0) ≡ Expires k = comes_to_due cp w.index gate k (own_of w0) all (desk_of w0) found in
-      let desk : desk_of w' ≡ desk_of w0 = show.desk ∙ rw (there, ap (λ x. x.put_off) same, wakes, outputs, completions, results, slots, awaited) refl in
+      let desk : desk_of w' ≡ desk_of w0 = show.desk ∙ rw (there, ap (λ x. x.put_off) same, wakes, tells.outputs_added ∙ append-nil w.home.deferred.outputs.items, completions, results, slots, awaited) refl in
       record {
-        moves = grind (arith, due, request, ends, desk, things_kept vs w.index (visible w) (visible w') s s' suits.seen (ap (λ y. y.wakes) seen) serves.shared spares);
+        moves = grind (arith, comes_to_due cp w.index gate k (own_of w0) all (desk_of w0) found, request, ends, desk, things_kept vs w.index (visible w) (visible w') s s' suits.seen (ap (λ y. y.wakes) seen) serves.shared spares);
         may = (at_large q w s sound refl, (told_first cp (own_of w0) w.index all.requests k found, (ap (same_end None) (ap outcome_at_expiry request ∙ ends), tt)));
         own = show.own ∙ rw (there, ap (λ x. x.names.ended) same, ap (λ x. x.names.untold) same, numbers, flying) refl;
         common =

@@ -1,27 +1,11 @@
 -- What keeps what the kernel has, where other steps change the requests.
-use Rattle.std.proofs.{Common.{◌≡◌, ◌≢◌, ℕ, ◌<◌, ◌≤◌, ◌==◌, Bool, true, false, List, [], Some, None, refl, sym, ap, subst, ◌∙◌, arith, slice_get}, lemmas.Bool.{false≢true, eq-eqb}}
-use Rattle.exec_base.specs.{Slab.{Slab, written}, declared.slab.Id.Id}
-use Rattle.exec_outcomes.specs.declared.outcome.Outcome.{Outcome}
-use Rattle.exec_request.specs.{Requests.target_of, declared.request.Request.Request as Asking}
-use Rattle.exec_ring.specs.{Rings.RingState, Stores.HasStretch, declared.store.Store.Store}
-use Rattle.exec_waiters.specs.{Ids.{user_data_of, index_in}, States.waiter_at, declared.waiter.{Entry.{Entry, TheVariants.Pending}, Waiter.Waiter}}
-use Rattle.exec_machine.specs.declared.state.RequestPhase.{RequestPhase}
-use Rattle.exec_parts.{specs.{declared.parts.{mail.Reply.Reply, record.Record.Record}, Records.number_in, Serving.changed_at}, proofs.Facts.{by_name, same_number, not_same}}
-use Rattle.exec_invariants.{specs.Carried.{HasRoom, HasStretchFor, IsCarried, IsUnderWay, IsWhole, may_move, those_of}, proofs.{Carrying.sum_changed, Changing.changes_one, Marking.{mark_if, was_marked}}}
+use Rattle.exec_invariants.{proofs.{Names.{◌≡◌, ◌≢◌, ℕ, ◌<◌, ◌≤◌, ◌==◌, Bool, true, false, List, [], Some, None, refl, sym, ap, subst, ◌∙◌, arith, slice_get, false≢true, eq-eqb, Slab, written, Id, Outcome, target_of, Asking, RingState, HasStretch, Store, user_data_of, index_in, waiter_at, Entry, Pending, Waiter, RequestPhase, Reply, Record, number_in, changed_at, same_number, not_same}, Carrying.sum_changed, Marking.{mark_if, was_marked}, Changing.{part_before, live_after}}, specs.Carried.{HasRoom, HasStretchFor, IsCarried, IsUnderWay, IsWhole, may_move, those_of}}
 
 -- ONE REQUEST GOES ON, with its operation as it was: of its waiter and its record anything else may change
 
-mark_operation : (f : Record → Record) (b : Bool) (r : Record) → (b ≡ true → (f r).shown.operation ≡ r.shown.operation) → (mark_if f b r).shown.operation ≡ r.shown.operation
-mark_operation f true r same = same refl
-mark_operation f false r same = refl
-
-mark_released : (f : Record → Record) (b : Bool) (r : Record) → (b ≡ true → (f r).shown.released ≡ r.shown.released) → (mark_if f b r).shown.released ≡ r.shown.released
-mark_released f true r same = same refl
-mark_released f false r same = refl
-
-mark_phase : (f : Record → Record) (b : Bool) (r : Record) → (b ≡ true → (f r).shown.phase ≡ r.shown.phase) → (mark_if f b r).shown.phase ≡ r.shown.phase
-mark_phase f true r same = same refl
-mark_phase f false r same = refl
+mark_field : {T : Type 0} (field : Record → T) (f : Record → Record) (b : Bool) (r : Record) → (b ≡ true → field (f r) ≡ field r) → field (mark_if f b r) ≡ field r
+mark_field field f true r same = same refl
+mark_field field f false r same = refl
 
 pub stretch_still : (q : Asking) (st st' : Store) → ((file offset n : ℕ) → HasStretch st file offset n → HasStretch st' file offset n) → HasStretchFor q st → HasStretchFor q st'
 stretch_still = grind arith
@@ -30,34 +14,23 @@ module _ (numbers : List ℕ) (s : Slab (Entry Reply Reply)) (ring : RingState) 
   -- a record whose operation and phase stay, and another room by sockets
   pub carried_room : (k : ℕ) (f : Record → Record) (st' : Store) → ((r : Record) → slice_get rs k ≡ Some r → (f r).shown.operation ≡ r.shown.operation) → ((r : Record) → slice_get rs k ≡ Some r → (f r).shown.phase ≡ r.shown.phase)
       → HasRoom (changed_at rs k f) st' → ((file offset n : ℕ) → HasStretch st file offset n → HasStretch st' file offset n) → IsCarried numbers s ring (changed_at rs k f) st'
-  carried_room = grind (arith, was_marked, mark_operation, mark_phase, same_number, stretch_still)
+  carried_room = grind (arith, was_marked, mark_field (λ x. x.shown.operation), mark_field (λ x. x.shown.phase), same_number, stretch_still)
 
   -- a record whose operation and phase stay, and whether it was let go
   pub carried_marked : (k : ℕ) (f : Record → Record) → ((r : Record) → slice_get rs k ≡ Some r → (f r).shown.operation ≡ r.shown.operation) → ((r : Record) → slice_get rs k ≡ Some r → (f r).shown.phase ≡ r.shown.phase) → ((r : Record) → slice_get rs k ≡ Some r → (f r).shown.released ≡ r.shown.released)
       → IsCarried numbers s ring (changed_at rs k f) st
-  carried_marked = grind (arith, was_marked, mark_operation, mark_phase, mark_released, same_number, sum_changed)
+  carried_marked = grind (arith, was_marked, mark_field (λ x. x.shown.operation), mark_field (λ x. x.shown.phase), mark_field (λ x. x.shown.released), same_number, sum_changed)
 
   -- what waits there keeps its request
   pub carried_waiter : (id : Id) (it it' : Waiter Reply Reply) → waiter_at s id ≡ Some it → it'.request ≡ it.request → IsCarried numbers (written s id (Pending it')) ring rs st
   carried_waiter id it it' live same =
-      let was : (other : Id) (x : Waiter Reply Reply) → waiter_at (written s id (Pending it')) other ≡ Some x → (y : Waiter Reply Reply) × (waiter_at s other ≡ Some y) × (x.request ≡ y.request) = λ other x at.
-      let changed = changes_one s id it it' live in
-      by_name other id
-      (λ apart. (x, sym (changed.others other apart) ∙ at, refl))
-      (λ eq.
-      let is : x ≡ it' = cc (at, eq, changed.is_at) in
-      (it, ap (waiter_at s) eq ∙ live, ap (λ y. y.request) is ∙ same)) in
-      let becomes : (other : Id) (x : Waiter Reply Reply) → waiter_at s other ≡ Some x → (y : Waiter Reply Reply) × (waiter_at (written s id (Pending it')) other ≡ Some y) = λ other x at.
-      let changed = changes_one s id it it' live in
-      by_name other id
-      (λ apart. (x, changed.others other apart ∙ at))
-      (λ eq. (it', ap (waiter_at (written s id (Pending it'))) eq ∙ changed.is_at)) in
+      let was : (other : Id) (x : Waiter Reply Reply) → waiter_at (written s id (Pending it')) other ≡ Some x → (y : Waiter Reply Reply) × (waiter_at s other ≡ Some y) × (x.request ≡ y.request) = part_before s id it it' live (λ y. y.request) same in
       record {
         slots = λ other x at. carried.slots other (was other x at).0 (was other x at).1;
         whole = λ other x at. subst IsWhole (sym (was other x at).2) (carried.whole other (was other x at).0 (was other x at).1);
         target = λ other x r at there. carried.target other (was other x at).0 r (was other x at).1 there ∙ ap target_of (sym (was other x at).2);
         carried = λ other x r at there. subst (λ q. IsUnderWay r.shown.phase (user_data_of other) q ring) (sym (was other x at).2) (carried.carried other (was other x at).0 r (was other x at).1 there);
-        nobody = λ u small free. carried.nobody u small (λ other x at named. (let now = becomes other x at in free other now.0 now.1 named));
+        nobody = λ u small free. carried.nobody u small (λ other x at named. (let now = live_after s id it it' live other x at in free other now.0 now.1 named));
         room = carried.room;
         stretch = λ other x at. subst (λ q. HasStretchFor q st) (sym (was other x at).2) (carried.stretch other (was other x at).0 (was other x at).1);
       }
@@ -98,9 +71,7 @@ module _ (numbers : List ℕ) (s : Slab (Entry Reply Reply)) (ring : RingState) 
           carried = λ other x y at found. carried.carried other x y (before other x at) (stood other x y at found);
           nobody = λ v small free. nobody_by v (user_data_of id == v) refl small free;
           room = λ out socket.
-              let sum = sum_changed (may_move out socket) rs (number_in numbers id) r f there in
-              let room = carried.room out socket in
-              omega (arith, sum, less out socket, room);
+              omega (arith, sum_changed (may_move out socket) rs (number_in numbers id) r f there, less out socket, carried.room out socket);
           stretch = λ other x at. carried.stretch other x (before other x at);
         }
 

@@ -1,13 +1,5 @@
 -- What the kernel has of a request whose result lands: one operation, which leaves; and one completion more.
-use Rattle.std.{proofs.{Common.{◌≡◌, ℕ, suc, ◌+◌, ◌%◌, ◌<◌, ◌≤◌, ◌&&◌, ◌||◌, Bool, true, false, not, cond, List, [], ◌∷◌, ◌++◌, filter, Some, refl, sym, ap, subst, ◌∙◌, arith, slice_get, sum_by}, lemmas.{Bool.{and_parts, Decides.nat_tests}, List.{Sums.{sum_by-set, get_or-le-sum_by}}, Option.{slice_get_within, get_or_from_slice_get}}}, specs.{List.{list_any, remove}}}
-use Rattle.exec_base.specs.declared.slab.Id.{Id}
-use Rattle.exec_outcomes.specs.{Lawful.{is_lawful}, declared.outcome.{OpResult.{OpResult}}}
-use Rattle.exec_ring.specs.{Completions.{completed, number_of, result_in}, Kernels.{last_place, without_flight, landed}, Rings.{RingState, completions}}
-use Rattle.exec_waiters.specs.Ids.{user_data_of, index_in, generation_in}
-use Rattle.exec_driver.specs.Steps.{is_control}
-use Rattle.exec_moves.specs.State.{passed}
-use Rattle.exec_parts.{specs.{declared.parts.record.Record.Record, Serving.{changed_at}, View.{trailing, wake_poll_in}}}
-use Rattle.exec_invariants.{specs.{Carried.those_of, Flown.{IsPolled, operations}}, proofs.WokenEntered.landing as landing_added}
+use Rattle.exec_invariants.{proofs.{Names.{◌≡◌, ℕ, suc, ◌+◌, ◌%◌, ◌<◌, ◌≤◌, ◌&&◌, ◌||◌, Bool, true, false, not, cond, List, [], ◌∷◌, ◌++◌, filter, Some, refl, sym, ap, subst, ◌∙◌, arith, slice_get, sum_by, and_parts, nat_tests, sum_by-set, get_or-le-sum_by, slice_get_within, get_or_from_slice_get, list_any, remove, Id, is_lawful, OpResult, completed, number_of, result_in, last_place, without_flight, landed, RingState, completions, user_data_of, index_in, generation_in, is_control, passed, Record, changed_at, trailing, wake_poll_in}, WokenEntered.{landing as landing_added}}, specs.{Carried.those_of, Flown.{IsPolled, operations}}}
 
 -- THE LAST THAT PASSES A TEST
 

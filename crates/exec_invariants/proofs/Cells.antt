@@ -1,8 +1,5 @@
 -- What a wake makes of a cell, and what is seen of that.
-use Rattle.std.proofs.Common.{◌≡◌, ℕ, Option, arith}
-use Rattle.exec_task.specs.{Phases.{is_polled, woken as cell_woken, is_idle as is_cell_idle}, declared.{body.Said.Said, task.Phase.Phase}}
-use Rattle.exec_machine.specs.{Tasks.{woken}, Tests.is_idle}
-use Rattle.exec_parts.specs.{declared.parts.task_slot.TaskSlot.TaskSlot, Phased.is_complete, Pooled.woken_slot, Spots.Spot, View.{body_in, phase_seen, task_seen}}
+use Rattle.exec_invariants.proofs.Names.{◌≡◌, ℕ, Option, arith, is_polled, cell_woken, is_cell_idle, Said, Phase, woken, is_idle, TaskSlot, is_complete, woken_slot, Spot, body_in, phase_seen, task_seen}
 
 module _ {B : Type 0} where
   pub body_woken : (p : Phase B) (b : Option B) → body_in (cell_woken p) b ≡ body_in p b

@@ -1,15 +1,5 @@
 -- One request goes on: its record changes, and what its driver has of it.
-use Rattle.std.proofs.{Common.{◌≡◌, ◌≢◌, ℕ, ◌+◌, ◌==◌, Bool, true, false, List, [], Option, Some, None, IsSome, refl, sym, ap, subst, ◌∙◌, arith, slice_get, is_some}, lemmas.{List.length-set, Bool.{false≢true, eq-eqb}}}
-use Rattle.exec_base.{specs.{Slab.{Slab, value_at, written, live_count}, declared.slab.{Id.Id, Slot.TheVariants.Live}}, proofs.Slots.{Updates-write, count-set, IsLiveAt-from_value, live_within}}
-use Rattle.exec_time.specs.declared.timers.Sleeper.{Sleeper as Sleeping}
-use Rattle.exec_request.specs.declared.output.RequestOutput.{RequestOutput}
-use Rattle.exec_waiters.{specs.{States.{waiter_at, pending_count, flying_count, is_flying}, declared.waiter.{Entry.{Entry, TheVariants.{Pending, Ready}}, Waiter.Waiter}}, proofs.Changes.{entry_of, one_if}}
-use Rattle.exec_driver.specs.{Driving.Driving, Punctual.IsPunctual}
-use Rattle.exec_lists.proofs.Counting.{OneChanged, pending_is, flying_is, one_written}
-use Rattle.exec_machine.specs.Tests.{is_resolved}
-use Rattle.exec_moves.specs.declared.place.Place.{Place}
-use Rattle.exec_parts.{specs.{declared.parts.{mail.Reply.Reply, names.Names.Names, record.Record.Record, shared.Shared.Shared, sleeping.SleeperRecord.SleeperRecord, worker.{PutOff.PutOff, Worker.Worker}}, Records.number_in, Serving.changed_at, Calls.IsTold, View.driver_of}, proofs.Facts.{by_name, same_number}}
-use Rattle.exec_invariants.{specs.{Carried.IsCarried, Due.{AreTimed, IsWheelAt, may_be_due, wheel_moment, IsDue, AreAsleep}, Flown.HasFlown, Gates.IsKnown, Ordered.{IsOrdered, went_round}, Names.{HasWidth, IsNamed, IsAlike, IsSubmitted, tellers}, Sound.{SoundAt, served_in, AreOver}, HoldPlaces.{has_wakes_at, is_bare_at}, Rooted.IsRooted}, proofs.{Going.{GoesOn, AllGoOn, same_worker, same_id, over_on, rooted_on}, HeldCounts.held_written, Marking.{mark_if, marked, was_marked}, ServingHolds.{Follows, KeepsBy}, Serving.kept, ServingPlaces.calm}}
+use Rattle.exec_invariants.{proofs.{Names.{◌≡◌, ◌≢◌, ℕ, ◌+◌, ◌==◌, Bool, true, false, List, [], Option, Some, None, IsSome, refl, sym, ap, subst, ◌∙◌, arith, slice_get, is_some, length-set, false≢true, eq-eqb, Slab, value_at, written, live_count, Id, Live, Updates-write, count-set, IsLiveAt-from_value, live_within, Sleeping, RequestOutput, waiter_at, pending_count, flying_count, is_flying, Entry, Pending, Ready, Waiter, entry_of, one_if, Driving, IsPunctual, OneChanged, pending_is, flying_is, one_written, is_resolved, Place, Reply, Names, Record, Shared, SleeperRecord, PutOff, Worker, number_in, changed_at, IsTold, driver_of, by_name, same_number, not_same}, Going.{GoesOn, AllGoOn, same_worker, same_id, over_on, rooted_on}, HeldCounts.held_written, Marking.{mark_if, marked, was_marked}, ServingHolds.{Follows, KeepsBy}, Serving.kept, ServingPlaces.calm}, specs.{Carried.IsCarried, Due.{AreTimed, IsWheelAt, may_be_due, wheel_moment, IsDue, AreAsleep}, Flown.HasFlown, Gates.IsKnown, Ordered.{IsOrdered, went_round}, Names.{HasWidth, IsNamed, IsAlike, IsSubmitted, tellers}, Sound.{SoundAt, served_in, AreOver}, HoldPlaces.{has_wakes_at, is_bare_at}, Rooted.IsRooted}}
 
 -- THE RECORDS
 
@@ -30,12 +20,8 @@ module _ (rs : List Record) (k : ℕ) (f : Record → Record) (r : Record) (ther
   pub now_there : slice_get (changed_at rs k f) k ≡ Some (f r)
   now_there = marked f rs k k r there ∙ ap (λ b. Some (mark_if f b r)) (eq-eqb k k refl)
 
-  other_number : (j : ℕ) → (k ≡ j → ⊥) → (b : Bool) → (k == j) ≡ b → b ≡ false
-  other_number j apart true is = absurd (apart (same_number k j is))
-  other_number j apart false is = refl
-
   pub others_there : (j : ℕ) (x : Record) → (k ≡ j → ⊥) → slice_get (changed_at rs k f) j ≡ Some x → slice_get rs j ≡ Some x
-  others_there = grind (arith, was_marked, mark_if, other_number)
+  others_there = grind (arith, was_marked, mark_if, not_same)
 
 -- THE SLAB
 
@@ -51,8 +37,7 @@ module _ {S F : Type 0} (s : Slab (Entry S F)) (id : Id) (it it' : Waiter S F) (
 
   pub some_before : (other : Id) → IsSome (value_at (written s id (Pending it')) other) → IsSome (value_at s other)
   some_before other h =
-      let map = Updates-write s id (Pending it') some in
-      by_name other id (λ apart. rw (map.others other apart) at h) (λ same. rw same some)
+      by_name other id (λ apart. rw ((Updates-write s id (Pending it') some).others other apart) at h) (λ same. rw same some)
 
   pub some_after : (other : Id) → IsSome (value_at s other) → IsSome (value_at (written s id (Pending it')) other)
   some_after other h =
@@ -69,20 +54,27 @@ module _ {S F : Type 0} (s : Slab (Entry S F)) (id : Id) (it it' : Waiter S F) (
   pub live_still : live_count (written s id (Pending it')) ≡ live_count s
   live_still =
       let live = IsLiveAt-from_value s.slots id.index id.generation s.first some in
-      let moved = count-set s.slots id.index (Live id.generation (Pending it')) (live_within s.slots id.index id.generation live.value live.is) in
-      omega (arith, rw live.is at moved)
+      omega (arith, rw live.is at (count-set s.slots id.index (Live id.generation (Pending it')) (live_within s.slots id.index id.generation live.value live.is)))
 
   pub pending_still : pending_count (written s id (Pending it')) ≡ pending_count s
   pending_still =
-      let n = changes_one.numbers is_some refl in
-      pending_is (written s id (Pending it')) ∙ omega (arith, n) ∙ sym (pending_is s)
+      pending_is (written s id (Pending it')) ∙ omega (arith, changes_one.numbers is_some refl) ∙ sym (pending_is s)
 
   pub flying_after : flying_count (written s id (Pending it')) + one_if it.in_flight ≡ flying_count s + one_if it'.in_flight
   flying_after = rw (flying_is (written s id (Pending it')), flying_is s) (changes_one.numbers is_flying refl)
 
-  -- who waits for another was there, and who waits for this is the same
+  -- who waits for another was there, and of this a part is the same; and who was there is there
+  pub part_before : {T : Type 0} (part : Waiter S F → T) → part it' ≡ part it → (other : Id) (x : Waiter S F) → waiter_at (written s id (Pending it')) other ≡ Some x → (y : Waiter S F) × (waiter_at s other ≡ Some y) × (part x ≡ part y)
+  part_before part same other x h =
+      by_name other id
+      (λ apart. (x, sym (changes_one.others other apart) ∙ h, refl))
+      (λ eq. let is : x ≡ it' = cc (h, eq, changes_one.is_at) in (it, ap (waiter_at s) eq ∙ at, ap part is ∙ same))
+
   pub watched_before : it'.observer ≡ it.observer → (other : Id) (x : Waiter S F) → waiter_at (written s id (Pending it')) other ≡ Some x → (y : Waiter S F) × (waiter_at s other ≡ Some y) × (x.observer ≡ y.observer)
-  watched_before = grind (arith, by_name, changes_one)
+  watched_before = part_before (λ y. y.observer)
+
+  pub live_after : (other : Id) (x : Waiter S F) → waiter_at s other ≡ Some x → (y : Waiter S F) × (waiter_at (written s id (Pending it')) other ≡ Some y)
+  live_after other x h = by_name other id (λ apart. (x, changes_one.others other apart ∙ h)) (λ eq. (it', ap (waiter_at (written s id (Pending it'))) eq ∙ changes_one.is_at))
 
 -- as much may be told
 pub tellers_still : (s : Slab (Entry Reply Reply)) (id : Id) (it it' : Waiter Reply Reply) → waiter_at s id ≡ Some it → it'.observer ≡ it.observer → (zs : Slab (Sleeping Reply)) → tellers (written s id (Pending it')) zs ≡ tellers s zs
@@ -133,9 +125,8 @@ module _ (i : ℕ) (n n' : Names) (d d' : Driving Reply Reply) (zs : Slab (Sleep
             rw (one.start, one.tick) (alike_by named other w x (subst (λ s. waiter_at s other ≡ Some w) one.slab at) (subst (λ v. slice_get (changed_at rs (number_in n.requests.items id) f) (number_in v.items other) ≡ Some x) one.requests there));
         over = λ j x there mine gone.
             let old = all.was j x there in
-            let name = same_id old.r x old.on in
             let before : waiter_at d.requests old.r.id.0 ≡ None =
-            gone_before (waiter_at d.requests old.r.id.0) old.r.id.0 refl (subst (λ s. waiter_at s old.r.id.0 ≡ None) one.slab (subst (λ y. waiter_at d'.requests y.0 ≡ None) name gone)) in
+            gone_before (waiter_at d.requests old.r.id.0) old.r.id.0 refl (subst (λ s. waiter_at s old.r.id.0 ≡ None) one.slab (subst (λ y. waiter_at d'.requests y.0 ≡ None) (same_id old.r x old.on) gone)) in
             old.on.over ∙ named.over j old.r old.there (sym (same_worker old.r x old.on) ∙ mine) before;
         submitted = submitted;
         slots = rw (one.requests, one.slab, length-set) named.slots;
@@ -146,15 +137,13 @@ module _ (i : ℕ) (n n' : Names) (d d' : Driving Reply Reply) (zs : Slab (Sleep
       gone_before None other is gone = refl
       gone_before (Some w) other is gone =
           let changed = changes_one d.requests id it it' one.at in
-          let differs : other ≢ id → Some w ≡ None = λ apart. sym is ∙ sym (changed.others other apart) ∙ gone in
-          by_name other id differs
+          by_name other id (λ apart. sym is ∙ sym (changed.others other apart) ∙ gone)
           (λ same. absurd (let no : Some it' ≡ None = sym changed.is_at ∙ ap (waiter_at (written d.requests id (Pending it'))) (sym same) ∙ gone in cc))
 
   -- its deadline stays with its number
   pub timed_one : IsNamed i n d zs rs ss → AreTimed i n rs → AreTimed i n' (changed_at rs (number_in n.requests.items id) f)
   timed_one named timed j x there mine =
-      let all = all_go_one rs (number_in n.requests.items id) f r one.there one.on in
-      let old = all.was j x there in
+      let old = (all_go_one rs (number_in n.requests.items id) f r one.there one.on).was j x there in
       let it = timed j old.r old.there (sym (same_worker old.r x old.on) ∙ mine) in
       record {
         named = λ unresolved. rw (one.requests, same_id old.r x old.on) (it.named (sym old.on.over ∙ unresolved));
@@ -191,7 +180,6 @@ module _ {B : Type 0} (q q' : Place) (o : PutOff) (v : Names) (w : Worker) (s : 
       let due = sound.due in
       let tell : tellers d'.requests w.home.timers ≡ tellers d.requests w.home.timers = ap (λ x. tellers x w.home.timers) one.slab ∙ tellers_still d.requests id it it' one.at watched w.home.timers in
       let told_so = subst (λ n. IsTold w.names.ended.items w.home.deferred (n + 64)) (sym tell) (kept q w s sound (calm q to.from)).told in
-      let wide = subst (λ n. HasWidth w.home.deferred (n + 64)) (sym tell) sound.wide in
       let named_so = named_one w.index w.names names_then d d' w.home.timers rs s.sleepers.items id it it' r f one sound.named submitted in
       let over : AreOver w.index names_then.ended.items names_then.unreleased (pending_count d'.requests) records_then =
       rw (one.slab, pending_still d.requests id it it' one.at) (over_on rs records_then all w.index w.names.ended.items w.names.unreleased (pending_count d.requests) sound.over) in
@@ -207,4 +195,4 @@ module _ {B : Type 0} (q q' : Place) (o : PutOff) (v : Names) (w : Worker) (s : 
       (λ other told h. ready_before d.requests id it it' one.at other told (subst (λ x. value_at x other ≡ Some (Ready told)) one.slab h))
       (λ other x h. watched_before d.requests id it it' one.at watched other x (subst (λ y. waiter_at y other ≡ Some x) one.slab h)) in
       let bare : is_bare_at q' ≡ true → live_count w.home.timers ≡ 0 = λ h. (calm q to.from).lets_in d.requests w.home.timers sound.lets_go (sym to.bare ∙ h) in
-      assumption (told_so, wide, named_so, size ∙ sound.sized, over, quiet, due_so, flown, carried, known, rooted, bare)
+      assumption (told_so, subst (λ n. HasWidth w.home.deferred (n + 64)) (sym tell) sound.wide, named_so, size ∙ sound.sized, over, quiet, due_so, flown, carried, known, rooted, bare)

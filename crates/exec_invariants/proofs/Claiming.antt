@@ -1,13 +1,5 @@
 -- What comes of the exchange of another run queue's head for a claim, as the step says it.
-use Rattle.std.proofs.{Common.{◌≡◌, ℕ, ◌+◌, ◌<◌, Bool, true, false, List, length, take, Some, refl, sym, ap, subst, ◌∙◌, slice_get, slice_index_or}, lemmas.{Bool.eq-eqb, List.{drop-map, take-map}, Option.{get_or_from_slice_get, slice_get-get_or}}}
-use Rattle.std.proofs.Common.{◌&&◌, ◌==◌}
-use Rattle.exec_words.specs.{Head.{claim_at, claimed_head}, Queue.{claimed, head_of}, Reserved.Reserved, declared.head.Head.Head}
-use Rattle.exec_task.specs.declared.runnable.Runnable.{Runnable}
-use Rattle.exec_machine.specs.declared.event.Event.{TheVariants.Turn}
-use Rattle.exec_moves.specs.{declared.{idling.{InScan.InScan, Scan.Scan}, place.Place.Place}, Pop.same_head, Search.{claim_half, from_of}, State.{queue_of, turns}}
-use Rattle.exec_parts.proofs.Facts.{same_number, true_false}
-use Rattle.exec_parts.specs.{declared.parts.{seat.Seat.Seat as Chair, shared.Shared.Shared, worker.Worker.Worker}, View.{desk_of, queue_seen, tasks_of, things_of}, Things.Makes}
-use Rattle.exec_invariants.proofs.Showing.{own_queue_seen}
+use Rattle.exec_invariants.proofs.{Names.{◌≡◌, ℕ, ◌+◌, ◌<◌, Bool, true, false, List, length, take, Some, refl, sym, ap, subst, ◌∙◌, slice_get, slice_index_or, eq-eqb, drop-map, take-map, get_or_from_slice_get, slice_get-get_or, ◌&&◌, ◌==◌, claim_at, claimed_head, claimed, head_of, Reserved, Head, Runnable, Turn, InScan, Scan, Place, same_head, claim_half, from_of, queue_of, turns, same_number, true_false, Chair, Shared, Worker, desk_of, queue_seen, tasks_of, things_of, Makes, false_from_ne_true}, Showing.own_queue_seen}
 
 -- what was borrowed is what stands there
 pub chair_is : (seats : List Chair) (i k : ℕ) (m chair : Chair) → m ≡ slice_index_or seats i m → i ≡ k → slice_get seats k ≡ Some chair → m ≡ chair
@@ -29,14 +21,8 @@ pub heads_same : (h g : Head) → g ≡ h → same_head h g ≡ true
 heads_same h g is = rw (is, eq-eqb h.real h.real refl, eq-eqb h.gap h.gap refl) refl
 
 pub heads_other : (h g : Head) → (g ≡ h → ⊥) → same_head h g ≡ false
-heads_other h g other = by (same_head h g) refl
-  where
-    by : (b : Bool) → same_head h g ≡ b → same_head h g ≡ false
-    by true is =
-        let two = same_heads h g is in
-        let same : g ≡ h = ap (λ r. record g { real = r }) (sym two.0) ∙ ap (λ n. record h { gap = n }) (sym two.1) in
-        absurd (other same)
-    by false is = is
+heads_other h g other =
+    false_from_ne_true (same_head h g) (λ is. let two = same_heads h g is in other (ap (λ r. record g { real = r }) (sym two.0) ∙ ap (λ n. record h { gap = n }) (sym two.1)))
 
 -- the step is the move
 pub claim_makes : {B : Type 0} (s : Shared B) (w : Worker) (x : Scan) (h : Head) (tail i count : ℕ) (m : Chair) (hand : Reserved Runnable) → slice_get s.seats.items (from_of s.config x) ≡ Some m → i ≡ from_of s.config x → count ≡ claim_at h tail

@@ -1,10 +1,5 @@
 -- Worker zero closes the global queue, opens the barrier and stops the pool, each as a step of the machine.
-use Rattle.std.proofs.{Common.{◌≡◌, inl, inr, ℕ, ◌&&◌, ◌-◌, ◌<◌, Bool, true, false, [], ◌++◌, length, map, Option, Some, refl, sym, ap, subst, ◌∙◌, arith, slice_get, nat_lt, slice_index_or, ◌+◌, ◌≤◌, ◌*◌}, lemmas.{Bool.{false≢true, Decides.nat_tests}, List.append-nil}}
-use Rattle.exec_task.specs.declared.body.Said.{Said}
-use Rattle.exec_machine.specs.{declared.{event.Event.{Event, TheVariants.{Turn, Stop}}, state.Next.Next}, Choice.Choice.Plain, Closing.letters_to_roots}
-use Rattle.exec_moves.specs.{declared.{handing.{AfterPop.AfterPop, InPop.InPop}, place.{InClosing.InClosing, Place.Place}}, Move.move_at, Parts.tells_from, Seen.{next_at, serves_at}}
-use Rattle.exec_parts.{specs.{declared.parts.{shared.Shared.Shared, worker.Worker.Worker, seat.Seat.Seat as Chair}, Phased.{IsGoing, IsPhased, IsPrepared, Stage, closes_at, closing_in, has_left, has_shut, has_stopped, root_over, stage_of}, Spots.Spot, View.{common_of, desk_of, driver_of, letters_in, own_of, owed_at, things_with, visible, with_view}, Roles.is_pool}, proofs.Facts.by_number}
-use Rattle.exec_invariants.{specs.{Holding.box_of, Places.{drops_at, is_pooled_at, no_drops}, Sound.{Aims, HasBatch, IsSeated, LetsGoAt, SoundAt, has_wakes_at}, Works.Steps}, proofs.{Dedicated.chair_of_pool, Aside.{SparesSeats, queue_of_chair, seats_same}, PoolKept.gates_same, Seats.own_seat, Shutting.{Closes, Follows, GoesOnlyOn, Holds, holds_calm, Pools, pools_calm, Ready, shown_as}, Turning.view_found, Closes.{closed_by, follows_in, follows_pop, now_closing}}}
+use Rattle.exec_invariants.{proofs.{Names.{◌≡◌, inl, inr, ℕ, ◌&&◌, ◌-◌, ◌<◌, Bool, true, false, [], ◌++◌, length, map, Option, Some, refl, sym, ap, subst, ◌∙◌, arith, slice_get, nat_lt, slice_index_or, ◌+◌, ◌≤◌, ◌*◌, false≢true, nat_tests, append-nil, Said, Event, Turn, Stop, Next, Plain, letters_to_roots, AfterPop, InPop, InClosing, Place, move_at, tells_from, next_at, serves_at, Shared, Worker, Chair, IsGoing, IsPhased, IsPrepared, Stage, closes_at, closing_in, has_left, has_shut, has_stopped, root_over, stage_of, Spot, common_of, desk_of, driver_of, letters_in, own_of, owed_at, things_with, visible, with_view, is_pool, by_number}, Dedicated.chair_of_pool, Aside.{SparesSeats, queue_of_chair, seats_same}, PoolKept.gates_same, Seats.own_seat, Shutting.{Closes, Follows, GoesOnlyOn, Holds, holds_calm, Pools, pools_calm, Ready, shown_as}, Turning.view_found, Closes.{closed_by, follows_in, follows_pop, now_closing}}, specs.{Holding.box_of, Places.{drops_at, is_pooled_at, no_drops}, Sound.{Aims, HasBatch, IsSeated, LetsGoAt, SoundAt, has_wakes_at}, Works.Steps}}
 
 module _ {B L : Type 0} (left : B → L) (spot : L → Option Said → Spot) where
   module _ (w w' : Worker) (s s' : Shared B) (e : Event) where
@@ -17,7 +12,6 @@ module _ {B L : Type 0} (left : B → L) (spot : L → Option Said → Spot) whe
         let closing_so : w.home.closing ≡ true → w.home.closing ≡ true = λ h. h in
         let seated = subst (λ xs. IsSeated w.index false s.config.workers xs) (sym (ap (λ v. v.items) seats)) sound.seated in
         let queue : (chair : Chair) → slice_get s'.seats.items w.index ≡ Some chair → chair.queue.held ≡ [] = λ chair there. sound.queue chair (subst (λ v. slice_get v.items w.index ≡ Some chair) seats there) in
-        let aims_so = subst (λ v. Aims q s.config w.index v.items) (sym seats) aims in
         let place : (chair : Chair) → slice_get s'.seats.items w.index ≡ Some chair → chair.mailbox.inbox.closed ≡ false → 2 * chair.made + 1 ≤ w.batch.places =
         λ chair there. sound.batch_place chair (subst (λ v. slice_get v.items w.index ≡ Some chair) seats there) in
         let pooled : is_pooled_at q ≡ true → is_pool w.role ≡ true = λ h. sound.pooled pools in
@@ -39,7 +33,7 @@ module _ {B L : Type 0} (left : B → L) (spot : L → Option Said → Spot) whe
           closed = λ h. same ∙ closed_by_now it (chair_of_pool (Place.Closing x) w s sound chair at_own ∙ sound.pooled pools) h;
           prepared = prepared;
         }) in
-        assumption (kept, closing_so, seated, queue, aims_so, batch, place, sound.processed, ap (λ v. length v.items) seats, pooled, lets_go, quiet_so, more, phased, sound)
+        assumption (kept, closing_so, seated, queue, subst (λ v. Aims q s.config w.index v.items) (sym seats) aims, batch, place, sound.processed, ap (λ v. length v.items) seats, pooled, lets_go, quiet_so, more, phased, sound)
       where
         -- the set is closed: worker zero has closed it, and any other closes once the pool is stopped
         closed_by_now : {st : Stage} → IsPhased w.index true (Some x) w.home.closing w.root w.names.unreleased st s.tasks.items → st.pool ≡ true → s'.stopped ≡ true → st.set.closed ≡ true
@@ -115,23 +109,13 @@ module _ {B L : Type 0} (left : B → L) (spot : L → Option Said → Spot) whe
     pub pool_stopped : SoundAt (Place.Closing InClosing.Stop) w s → IsGoing w.index s.seats.items → e ≡ Stop → w' ≡ record w { place = tells_from s.config 1 } → s' ≡ record s { stopped = true } → Steps left spot w s e w' s'
     pool_stopped sound going event goes kept = by (nat_lt 1 s.config.workers) refl
       where
-        seats : s'.seats ≡ s.seats
-        seats = ap (λ (z : Shared B). z.seats) kept
-
-        set : s'.set ≡ s.set
-        set = ap (λ (z : Shared B). z.set) kept
-
-        stop : s'.stopped ≡ true
-        stop = ap (λ (z : Shared B). z.stopped) kept
-
-        closes : Closes s s'
-        closes = subst (λ (z : Shared B). z ≡ record s { seats = z.seats; set = z.set; global = z.global; barrier_open = z.barrier_open; stopped = z.stopped }) (sym kept) refl
-
-        phased : IsPhased w.index true (Some InClosing.Stop) w.home.closing w.root w.names.unreleased (stage_of sound.seated.seat s) s.tasks.items
-        phased = sound.phased sound.seated.seat sound.seated.there
-
         leads : (n : ℕ) (q : Place) → tells_from s.config 1 ≡ q → closes_at q ≡ true → closing_in q ≡ Some (InClosing.TellRoot n) → Follows q → next_at q ≡ Next.Free → serves_at q ≡ false → owed_at w.workers q ≡ letters_to_roots (w.workers - 1) 1 → Aims q s.config w.index s.seats.items → drops_at q ≡ no_drops → LetsGoAt q (driver_of w).requests w.home.timers → HasBatch q w.batch.values → Steps left spot w s e w' s'
         leads n q is closes_there closing follows free unserved owes aims drops lets_go batch =
+            let seats : s'.seats ≡ s.seats = ap (λ (z : Shared B). z.seats) kept in
+            let set : s'.set ≡ s.set = ap (λ (z : Shared B). z.set) kept in
+            let stop : s'.stopped ≡ true = ap (λ (z : Shared B). z.stopped) kept in
+            let closes : Closes s s' = subst (λ (z : Shared B). z ≡ record s { seats = z.seats; set = z.set; global = z.global; barrier_open = z.barrier_open; stopped = z.stopped }) (sym kept) refl in
+            let phased : IsPhased w.index true (Some InClosing.Stop) w.home.closing w.root w.names.unreleased (stage_of sound.seated.seat s) s.tasks.items = sound.phased sound.seated.seat sound.seated.there in
             closed_by left spot InClosing.Stop q w.home.closing w.batch w.processed w w' s s' e sound follows
             (stays InClosing.Stop (InClosing.TellRoot n) sound going closes seats (ap (λ z. z.closed) set) (ap (λ z. length z.shards) set) refl refl refl (λ zero. stop) (λ h. stop) q closes_there closing refl refl tt refl refl lets_go batch aims)
             (alone sound.aims set (λ h. stop)) (inl (ap (λ (z : Shared B). z.global) kept)) (unset seats) (calm InClosing.Stop q sound follows drops seats set) (holds_still q seats) (ap (λ v. map queue_of_chair v.items) seats) (goes ∙ ap (λ y. record w { place = y }) is)

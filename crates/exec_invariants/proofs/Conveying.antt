@@ -1,13 +1,5 @@
 -- What keeps what the kernel has, where a request goes on and where an entry goes into the submission queue.
-use Rattle.std.proofs.{Common.{◌≡◌, ◌≢◌, ℕ, ◌+◌, ◌<◌, ◌≤◌, ◌==◌, Bool, true, false, cond, List, [], ◌∷◌, ◌++◌, filter, Some, refl, sym, ap, subst, ◌∙◌, arith, slice_get, slice_index_or}, lemmas.{Bool.{eq-eqb}, List.{append-nil, Elements.filter-append}}}
-use Rattle.exec_base.specs.{Slab.{Slab, written}, declared.slab.Id.Id}
-use Rattle.exec_outcomes.specs.{Outcomes.bytes_of, declared.outcome.{OpResult.OpResult}}
-use Rattle.exec_request.specs.{Requests.{target_of, window_by}, declared.{request.Request.Request as Asking, window.Window.Window}}
-use Rattle.exec_ring.specs.{Kernels.{is_of, with_entry}, Rings.RingState, declared.{completion.Submission.Submission, store.Store.Store}}
-use Rattle.exec_waiters.specs.{Ids.{user_data_of, index_in}, States.waiter_at, declared.waiter.{Entry.{Entry, TheVariants.Pending}, Waiter.Waiter}}
-use Rattle.exec_machine.specs.declared.state.RequestPhase.{RequestPhase}
-use Rattle.exec_parts.{specs.{declared.parts.{mail.Reply.Reply, record.Record.Record}, Records.number_in, Serving.changed_at}, proofs.Facts.{by_name, same_number}}
-use Rattle.exec_invariants.{specs.Carried.{HasStretchFor, IsCarried, IsUnderWay, IsWhole, may_move, those_of}, proofs.{Carrying.{index_told, sum_changed}, Changing.changes_one, Judging.is_of_bytes, Marking.{mark_if, marked, was_marked}}}
+use Rattle.exec_invariants.{proofs.{Names.{◌≡◌, ◌≢◌, ℕ, ◌+◌, ◌<◌, ◌≤◌, Bool, true, cond, List, [], ◌∷◌, ◌++◌, filter, Some, refl, sym, ap, subst, ◌∙◌, arith, slice_get, slice_index_or, eq-eqb, append-nil, filter-append, Slab, written, Id, bytes_of, OpResult, target_of, window_by, Asking, Window, is_of, with_entry, RingState, Submission, Store, user_data_of, index_in, waiter_at, Entry, Pending, Waiter, RequestPhase, Reply, Record, number_in, changed_at, by_name, same_number, not_same}, Carrying.{index_told, sum_changed}, Changing.{changes_one, live_after}, Judging.is_of_bytes, Marking.{mark_if, marked, was_marked}}, specs.Carried.{HasStretchFor, IsCarried, IsUnderWay, IsWhole, may_move, those_of}}
 
 -- one more entry in the submission queue is none of another request
 other_entry : (w : Window) (u v : ℕ) (r : RingState) → (u ≡ v → ⊥) → those_of v (with_entry r w u).staged ≡ those_of v r.staged
@@ -48,34 +40,20 @@ module _ (numbers : List ℕ) (s : Slab (Entry Reply Reply)) (ring : RingState) 
     then_by : (other : Id) (x : Waiter Reply Reply) → waiter_at (written s id (Pending it')) other ≡ Some x → Then other x
     then_by other x at =
         let changed = changes_one s id it it' live in
-        let another : other ≢ id → Then other x = λ differs. Other differs (sym (changed.others other differs) ∙ at) in
-        by_name other id another (λ eq. This eq (let is : x ≡ it' = cc (at, eq, changed.is_at) in is))
-
-    becomes_some : (other : Id) (x : Waiter Reply Reply) → waiter_at s other ≡ Some x → (y : Waiter Reply Reply) × (waiter_at (written s id (Pending it')) other ≡ Some y)
-    becomes_some other x at =
-        let changed = changes_one s id it it' live in
-        by_name other id
-        (λ apart. (x, changed.others other apart ∙ at))
-        (λ eq. (it', ap (waiter_at (written s id (Pending it'))) eq ∙ changed.is_at))
+        by_name other id (λ differs. Other differs (sym (changed.others other differs) ∙ at)) (λ eq. This eq (let is : x ≡ it' = cc (at, eq, changed.is_at) in is))
 
     other_record : (j : ℕ) (y : Record) → (number_in numbers id ≡ j → ⊥) → slice_get (changed_at rs (number_in numbers id) f) j ≡ Some y → slice_get rs j ≡ Some y
     other_record j y differs found =
         let old = was_marked f rs (number_in numbers id) j y found in
-        old.1 ∙ ap (λ z. Some z) (sym (old.2 ∙ ap (λ b. mark_if f b old.0) (by (number_in numbers id == j) refl)))
-      where
-        by : (b : Bool) → (number_in numbers id == j) ≡ b → (number_in numbers id == j) ≡ false
-        by true is = absurd (differs (same_number (number_in numbers id) j is))
-        by false is = is
+        old.1 ∙ ap (λ z. Some z) (sym (old.2 ∙ ap (λ b. mark_if f b old.0) (not_same (number_in numbers id) j differs)))
 
     this_record : (y : Record) → slice_get (changed_at rs (number_in numbers id) f) (number_in numbers id) ≡ Some y → y ≡ f r
     this_record y found =
-        let now = marked f rs (number_in numbers id) (number_in numbers id) r there ∙ ap (λ b. Some (mark_if f b r)) (eq-eqb (number_in numbers id) (number_in numbers id) refl) in
-        cc (found, now)
+        cc (found, marked f rs (number_in numbers id) (number_in numbers id) r there ∙ ap (λ b. Some (mark_if f b r)) (eq-eqb (number_in numbers id) (number_in numbers id) refl))
 
     data_apart : (other : Id) (x : Waiter Reply Reply) → waiter_at s other ≡ Some x → other ≢ id → user_data_of id ≡ user_data_of other → ⊥
     data_apart other x at differs same =
-        let index : id.index ≡ other.index = sym (index_told id (carried.slots id it live)) ∙ ap index_in same ∙ index_told other (carried.slots other x at) in
-        apart other x at differs (ap (λ j. slice_index_or numbers j 0) index)
+        apart other x at differs (ap (λ j. slice_index_or numbers j 0) (sym (index_told id (carried.slots id it live)) ∙ ap index_in same ∙ index_told other (carried.slots other x at)))
 
     slots_then : (other : Id) (x : Waiter Reply Reply) → Then other x → other.index < 4294967295
     slots_then other x (Other differs at) = carried.slots other x at
@@ -88,8 +66,7 @@ module _ (numbers : List ℕ) (s : Slab (Entry Reply Reply)) (ring : RingState) 
     target_then : (other : Id) (x : Waiter Reply Reply) (y : Record) → Then other x → slice_get (changed_at rs (number_in numbers id) f) (number_in numbers other) ≡ Some y → y.shown.operation.target ≡ target_of x.request
     target_then other x y (Other differs at) found = carried.target other x y at (other_record (number_in numbers other) y (apart other x at differs) found)
     target_then other x y (This eq is) found =
-        let here : y ≡ f r = this_record y (ap (λ i. slice_get (changed_at rs (number_in numbers id) f) (number_in numbers i)) (sym eq) ∙ found) in
-        ap (λ z. z.shown.operation.target) here ∙ target ∙ ap (λ z. target_of z.request) (sym is)
+        ap (λ z. z.shown.operation.target) (this_record y (ap (λ i. slice_get (changed_at rs (number_in numbers id) f) (number_in numbers i)) (sym eq) ∙ found)) ∙ target ∙ ap (λ z. target_of z.request) (sym is)
 
     stretch_then : (other : Id) (x : Waiter Reply Reply) → Then other x → HasStretchFor x.request st
     stretch_then other x (Other differs at) = carried.stretch other x at
@@ -100,10 +77,9 @@ module _ (numbers : List ℕ) (s : Slab (Entry Reply Reply)) (ring : RingState) 
         under_same y.shown.phase (user_data_of other) x.request ring ring' (flying (user_data_of other) (data_apart other x at differs)) (staged (user_data_of other) (data_apart other x at differs))
         (carried.carried other x y at (other_record (number_in numbers other) y (apart other x at differs) found))
     under_then other x y (This eq is) found =
-        let here : y ≡ f r = this_record y (ap (λ i. slice_get (changed_at rs (number_in numbers id) f) (number_in numbers i)) (sym eq) ∙ found) in
         subst (λ i. IsUnderWay y.shown.phase (user_data_of i) x.request ring') (sym eq)
         (subst (λ q. IsUnderWay y.shown.phase (user_data_of id) q.request ring') (sym is)
-        (subst (λ p. IsUnderWay p (user_data_of id) it'.request ring') (sym (ap (λ z. z.shown.phase) here)) under))
+        (subst (λ p. IsUnderWay p (user_data_of id) it'.request ring') (sym (ap (λ z. z.shown.phase) (this_record y (ap (λ i. slice_get (changed_at rs (number_in numbers id) f) (number_in numbers i)) (sym eq) ∙ found)))) under))
 
     pub carried_one : IsCarried numbers (written s id (Pending it')) ring' (changed_at rs (number_in numbers id) f) st
     carried_one =
@@ -113,15 +89,12 @@ module _ (numbers : List ℕ) (s : Slab (Entry Reply Reply)) (ring : RingState) 
           target = λ other x y at found. target_then other x y (then_by other x at) found;
           carried = λ other x y at found. under_then other x y (then_by other x at) found;
           nobody = λ v small free.
-              let none = carried.nobody v small (λ other x at named. (let now = becomes_some other x at in free other now.0 now.1 named)) in
-              let now = becomes_some id it live in
+              let none = carried.nobody v small (λ other x at named. (let now = live_after s id it it' live other x at in free other now.0 now.1 named)) in
+              let now = live_after s id it it' live id it live in
               let differs = free id now.0 now.1 in
               (flying v differs ∙ none.0, staged v differs ∙ none.1);
           room = λ out socket.
-              let sum = sum_changed (may_move out socket) rs (number_in numbers id) r f there in
-              let less = room out socket in
-              let most = carried.room out socket in
-              omega (arith, sum, less, most);
+              omega (arith, sum_changed (may_move out socket) rs (number_in numbers id) r f there, room out socket, carried.room out socket);
           stretch = λ other x at. stretch_then other x (then_by other x at);
         }
 

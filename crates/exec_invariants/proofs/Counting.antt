@@ -1,9 +1,5 @@
 -- What a step on the idle set leaves of the balances of all parties.
-use Rattle.std.{proofs.{Common.{◌≡◌, ◌≢◌, ℕ, zero, suc, ◌+◌, ◌^◌, ◌<◌, ◌≤◌, ◌==◌, ◌&&◌, Bool, true, false, not, ◌⊎◌, inl, inr, List, length, sum_by, Some, refl, sym, ap, subst, ◌∙◌, arith, slice_set, if◌then◌else◌}, lemmas.{Bool.{eq-eqb, false≢true}, List.{get_or-set_other, get_or-set_same, length-set, Quantifiers.position-Some, Sums.sum_by-cons}}}, specs.List.range_with_len}
-use Rattle.exec_words.specs.Idle.{Idle, is_in, lowest_of}
-use Rattle.exec_moves.specs.{declared.place.Place.Place, Seen.polls_at}
-use Rattle.exec_parts.{specs.declared.parts.{shared.Shared.Shared, worker.Worker.Worker}, proofs.Facts.{by_number, not_same}}
-use Rattle.exec_invariants.{specs.{Gates.HaveGates, Places.{claims_at, drops_at, has_count_at, is_published_at, one_if}, Whole.{Profile, HasWhole, IsWhole, claimed_count, with_worker}}, proofs.{Aside.{SameTold, hands_same}, PoolKept.{drops_same, pool_of}}}
+use Rattle.exec_invariants.{proofs.{Names.{◌≡◌, ◌≢◌, ℕ, zero, suc, ◌+◌, ◌^◌, ◌<◌, ◌≤◌, ◌==◌, ◌&&◌, Bool, true, false, not, ◌⊎◌, inl, inr, List, length, sum_by, Some, refl, sym, ap, subst, ◌∙◌, arith, slice_set, if◌then◌else◌, eq-eqb, false≢true, get_or-set_other, get_or-set_same, length-set, position-Some, sum_by-cons, range_with_len, Idle, is_in, lowest_of, Place, polls_at, Shared, Worker, by_number, not_same}, Aside.{SameTold, hands_same}, PoolKept.{drops_same, pool_of}}, specs.{Gates.HaveGates, Places.{claims_at, drops_at, has_count_at, is_published_at, one_if}, Whole.{Profile, HasWhole, IsWhole, claimed_count, with_worker}}}
 
 -- SUMS OVER NUMBERS
 
@@ -19,13 +15,9 @@ sum_one f g i a (suc n) from to same =
     let of_g = sum_by-cons g a (range_with_len (a + 1) n) in
     by_number a i
     (λ apart.
-    let rest = sum_one f g i (a + 1) n (omega (arith, apart)) (omega arith) same in
-    omega (arith, of_f, of_g, rest, same a apart))
+    omega (arith, of_f, of_g, sum_one f g i (a + 1) n (omega (arith, apart)) (omega arith) same, same a apart))
     (λ is.
-    let rest = sum_above f g i (a + 1) n (omega (arith, is)) same in
-    let at_f : f a ≡ f i = ap f is in
-    let at_g : g a ≡ g i = ap g is in
-    omega (arith, of_f, of_g, rest, at_f, at_g))
+    omega (arith, of_f, of_g, sum_above f g i (a + 1) n (omega (arith, is)) same, ap f is, ap g is))
 
 -- where the term of a number behind them changed
 pub sum_past : (f g : ℕ → ℕ) (i a n : ℕ) → a + n ≤ i → ((j : ℕ) → j ≢ i → g j ≡ f j) → sum_by g (range_with_len a n) ≡ sum_by f (range_with_len a n)
@@ -151,14 +143,13 @@ module _ {B : Type 0} where
   -- a dedicated worker is not in the set, whatever its place says
   pub counts_apart : (z : Stance) (b : Bool) (w : Worker) (s : Shared B) → s.config.workers ≤ w.index → Counts z (record z { published = b }) w s s.idle
   counts_apart z b w s past =
-      let n = s.config.workers in
       let i = w.index in
       let set = s.idle.published in
       record {
         sized = refl;
         counts = λ others whole.
             let same : (j : ℕ) → j ≢ i → is_claimed others i b set j ≡ is_claimed others i z.published set j = λ j other. rw (beside others i j z.published b other) refl in
-            omega (arith, sum_past (is_claimed others i z.published set) (is_claimed others i b set) i 0 n (omega (arith, past)) same);
+            omega (arith, sum_past (is_claimed others i z.published set) (is_claimed others i b set) i 0 s.config.workers (omega (arith, past)) same);
         bits = λ others whole j h.
             let was = whole.bits j h in
             (beside others i j (is_published_at w.place) b (λ same. omega (arith, was.1, past, same)) ∙ was.0, was.1);
@@ -215,16 +206,14 @@ module _ {B : Type 0} where
         counts = λ others whole. omega (arith, balance others, own);
         bits = λ others whole j h. by_number j i (λ other. bits_beside z w s others i false false here whole j other (inl refl) h) (λ same.
             let within : i < length set = omega (arith, whole.set, few) in
-            let no : false ≡ true = sym (set_at set i false within) ∙ ap (is_in set') (sym same) ∙ h in
-            absurd (false≢true no));
+            absurd (false≢true (sym (set_at set i false within) ∙ ap (is_in set') (sym same) ∙ h)));
       } in
       subst (Counts z z' w s) (sym is) done
 
   -- A claim takes the bit of a worker, and hands a count over to it.
   pub claimed_there : (z : Stance) (w : Worker) (s : Shared B) → Stands z w → HasWhole w s → (k : ℕ) → lowest_of s.idle.published ≡ Some k → k < s.config.workers
   claimed_there z w s here has k lowest =
-      let found = position-Some (λ b. b) s.idle.published k false lowest in
-      (has.whole.bits k found.1).1
+      (has.whole.bits k (position-Some (λ b. b) s.idle.published k false lowest).1).1
 
   pub counts_claimed : (z : Stance) (k : ℕ) (w : Worker) (s : Shared B) (x : Idle) → Stands z w → z.counted ≡ true → lowest_of s.idle.published ≡ Some k → x ≡ record s.idle { published = slice_set s.idle.published k false } → Counts z (record z { counted = false }) w s x
   counts_claimed z k w s x here counted lowest is =
@@ -247,7 +236,6 @@ module _ {B : Type 0} where
         sized = length-set set k false;
         counts = λ others whole. omega (arith, balance others whole, own);
         bits = λ others whole j h. by_number j k (λ other. bits_beside z w s others k false z.published here whole j other (inr refl) h) (λ same.
-            let no : false ≡ true = sym (set_at set k false found.0) ∙ ap (is_in set') (sym same) ∙ h in
-            absurd (false≢true no));
+            absurd (false≢true (sym (set_at set k false found.0) ∙ ap (is_in set') (sym same) ∙ h)));
       } in
       subst (Counts z (record z { counted = false }) w s) (sym is) done

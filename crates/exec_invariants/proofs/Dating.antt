@@ -1,15 +1,6 @@
 -- What comes of the first new deadline is a step.
-use Rattle.std.{proofs.{Common.{◌≡◌, ℕ, ◌+◌, ◌^◌, ◌<◌, ◌≤◌, length, Option, Some, None, IfSome, refl, sym, ap, subst, ◌∙◌, arith, get_or, Err}, lemmas.Option.slice_get_within}, specs.VecDeque.deque_capacity}
-use Rattle.exec_base.specs.declared.error.Error.{Error, TheVariants.Timeout}
-use Rattle.exec_waiters.specs.{declared.waiter_id.WaiterId.WaiterId, States.pending_count}
-use Rattle.exec_lists.specs.Lists.{first_of}
-use Rattle.exec_driver.specs.Steps.{tick_for, ended_by}
-use Rattle.exec_task.specs.declared.body.Said.{Said}
-use Rattle.exec_machine.specs.declared.event.Event.{Event}
-use Rattle.exec_moves.specs.declared.place.{Place.Place, InService.InService}
+use Rattle.exec_invariants.{proofs.{Names.{◌≡◌, ℕ, ◌+◌, ◌^◌, ◌<◌, ◌≤◌, length, Option, Some, None, IfSome, refl, sym, ap, subst, ◌∙◌, arith, get_or, slice_get_within, deque_capacity, Error, WaiterId, first_of, tick_for, ended_by, Said, Event, Place, InService, Record, Shared, Worker, number_in, IsOnWheel, Spot, driver_of, own_of}, Enrolled.{HasEnrolled, new_first}, Enrolling.{enrolled_at, ended_not}, Late.enrol_ends, Timing.enrol_stays, Expiring.room_ends}, specs.{Submits.IsNewIn, Works.Steps}}
 pub use Rattle.exec_invariants.proofs.LeafRecords.{found_is, set_changes}
-use Rattle.exec_parts.specs.{declared.parts.{record.Record.Record, shared.Shared.Shared, worker.Worker.Worker}, Records.number_in, Serving.IsOnWheel, Spots.Spot, View.{driver_of, own_of}}
-use Rattle.exec_invariants.{specs.{Due.IsWheelAt, Submits.IsNewIn, Works.Steps}, proofs.{Enrolled.{HasEnrolled, new_first}, Enrolling.{enrolled_at, ended_not}, Late.enrol_ends, Resolving.slab_after, Timing.enrol_stays}}
 
 pub room_by : (ended others unreleased most : ℕ) → ended + others ≡ unreleased → 0 < others → unreleased ≤ most → ended < most
 room_by ended others unreleased most counted some fits = omega (arith, counted, some, fits)
@@ -22,11 +13,7 @@ module _ {B : Type 0} (w : Worker) (s : Shared B) (new : IsNewIn w s) (id : Wait
   new_within = let who = new_first w s new id first in slice_get_within s.requests.items (number_in w.names.requests.items id.0) who.r who.there
 
   pub new_room : length w.names.ended.items < deque_capacity w.names.ended
-  new_room =
-      let who = new_first w s new id first in
-      let sound = new.submits.sound in
-      let pending = one_pending _ (pending_count (driver_of w).requests) (slab_after (driver_of w).requests id.0 who.it (Err Timeout) None who.small who.live).pending in
-      room_by (length w.names.ended.items) (pending_count (driver_of w).requests) w.names.unreleased (deque_capacity w.names.ended) sound.over.counted pending sound.flown.ending
+  new_room = let who = new_first w s new id first in room_ends _ w s new.submits.sound id.0 who.it who.small who.live
 
   pub new_timed : (j : ℕ) (old : Record) (told : Option Error) → j ≡ number_in w.names.requests.items id.0 → old ≡ get_or s.requests.items j old
       → ((d : ℕ) → d ≡ w.moments.sampled → told ≡ ended_by (tick_for (driver_of w).wheel (new_first w s new id first).deadline d)) → told ≡ None → IsOnWheel w.moments.start s.config.tick old.shown.operation.deadline
@@ -34,15 +21,12 @@ module _ {B : Type 0} (w : Worker) (s : Shared B) (new : IsNewIn w s) (id : Wait
       let who = new_first w s new id first in
       let sound = new.submits.sound in
       let now = w.moments.sampled in
-      let q : Place = Place.Service (InService.Submit new.submits.gate) new.submits.service in
-      let w0 : Worker = record w { place = q } in
-      let wheel : IsWheelAt s.config w.moments.start now (driver_of w).wheel = sound.due.wheel in
-      let plain = sound.flown.plain (number_in w.names.requests.items id.0) who.r who.there who.worker in
-      let bounded : who.deadline < 2 ^ 63 = subst (λ o. IfSome o (λ m. m < 2 ^ 63)) who.told plain.deadline in
+      let w0 : Worker = record w { place = (Place.Service (InService.Submit new.submits.gate) new.submits.service) } in
+      let bounded : who.deadline < 2 ^ 63 = subst (λ o. IfSome o (λ m. m < 2 ^ 63)) who.told (sound.flown.plain (number_in w.names.requests.items id.0) who.r who.there who.worker).deadline in
       let within : who.deadline + s.config.tick < 2 ^ 64 = omega (arith, bounded, sound.config.tick) in
       let begun : w.moments.start ≤ now = omega (arith, sound.time.begun, sound.time.ordered) in
       let okay = ended_not (tick_for (driver_of w).wheel who.deadline now) (sym (told_is now refl) ∙ none) in
-      let ahead : now < who.deadline = (enrolled_at s.config (own_of w0) (driver_of w).wheel now who.deadline wheel refl sound.config.some_tick begun within okay.0 okay.1).1 in
+      let ahead : now < who.deadline = (enrolled_at s.config (own_of w0) (driver_of w).wheel now who.deadline sound.due.wheel refl sound.config.some_tick begun within okay.0 okay.1).1 in
       let asked : old.shown.operation.deadline ≡ Some who.deadline = ap (λ y. y.shown.operation.deadline) (found_is s.requests.items (number_in w.names.requests.items id.0) j who.r old number who.there found) ∙ who.told in
       subst (λ o. IsOnWheel w.moments.start s.config.tick o) (sym asked) (omega (arith, begun, ahead), within)
 

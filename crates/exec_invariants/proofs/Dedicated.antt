@@ -1,9 +1,5 @@
 -- Workers of the pool and dedicated ones: what the numbers of workers and of their roots say.
-use Rattle.std.proofs.{Common.{◌≡◌, ℕ, ◌<◌, ◌≤◌, true, false, List, Option, Some, None, sym, ◌∙◌, length, slice_get, arith}, lemmas.{Bool.{false≢true}, Option.slice_get_within}}
-use Rattle.std.proofs.lemmas.Bool.{ltb-true, ltb-false}
-use Rattle.exec_moves.specs.declared.place.Place.{Place}
-use Rattle.exec_parts.specs.{declared.parts.{role.Role.Role, seat.Seat.Seat as Chair, shared.Shared.Shared, task_slot.TaskSlot.TaskSlot, worker.Worker.Worker}, Roles.is_pool}
-use Rattle.exec_invariants.specs.{Places.is_pooled_at, Sound.{AreHome, Serves, SoundAt}}
+use Rattle.exec_invariants.{proofs.Names.{◌≡◌, ℕ, ◌<◌, ◌≤◌, true, false, List, Option, Some, None, sym, ◌∙◌, length, slice_get, arith, false≢true, slice_get_within, ltb-true, ltb-false, Place, Role, Chair, Shared, TaskSlot, Worker, is_pool}, specs.{Places.is_pooled_at, Sound.{AreHome, Serves, SoundAt}}}
 
 pub by_length : {n m : ℕ} → m ≡ n → n ≤ m
 by_length same = omega (arith, same)

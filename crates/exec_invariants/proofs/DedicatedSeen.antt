@@ -1,10 +1,5 @@
 -- What the machine sees of whether a worker is of the pool.
-use Rattle.std.proofs.Common.{◌≡◌, Option, ap, ◌∙◌}
-use Rattle.exec_task.specs.declared.body.Said.{Said}
-use Rattle.exec_machine.specs.{Progress.Plan, World.Seat}
-use Rattle.exec_moves.specs.{declared.place.Place.Place, Callback.is_of_pool}
-use Rattle.exec_parts.specs.{declared.parts.{shared.Shared.Shared, worker.Worker.Worker}, Roles.is_pool, Spots.Spot, View.{Views, common_of}}
-use Rattle.exec_invariants.{specs.{Sound.SoundAt, Works.Suits}, proofs.{Dedicated.chair_of_pool, Seats.own_seat}}
+use Rattle.exec_invariants.{proofs.{Names.{◌≡◌, Option, ap, ◌∙◌, Said, Plan, Seat, Place, is_of_pool, Shared, Worker, is_pool, Spot, Views, common_of}, Dedicated.chair_of_pool, Seats.own_seat}, specs.{Sound.SoundAt, Works.Suits}}
 
 module _ {B L : Type 0} (left : B → L) (spot : L → Option Said → Spot) where
   pub pool_seen : (p : Plan) (vs : Views) (q : Place) (w : Worker) (s : Shared B) → SoundAt q w s → Suits p vs w s → is_of_pool (common_of left spot p vs s) w.index ≡ is_pool w.role

@@ -1,12 +1,5 @@
 -- What stands on the desk once a request is over.
-use Rattle.std.proofs.{Common.{◌≡◌, ℕ, ◌+◌, ◌==◌, not, Bool, false, List, [], ◌∷◌, ◌++◌, filter, length, map, Some, is_some, if◌then◌else◌, sym, ap, ◌∙◌, arith}, lemmas.List.{append-nil, length-append, map-append}}
-use Rattle.exec_base.specs.{Slab.{Slab, removed}, declared.{slab.Id.Id, task_no.TaskNo.TaskNo}}
-use Rattle.exec_request.specs.declared.output.RequestOutput.{RequestOutput}
-use Rattle.exec_waiters.specs.{Events.{finished_for, waker_in}, States.is_held_by, Told.{Tells, Told, tasks_of}, declared.{deferred.{Deferred.Deferred}, observer.Observer.{TheVariants.{Forwarded}}, waiter.{Entry.{Entry, TheVariants.{Pending}}, Waiter.Waiter}}}
-use Rattle.exec_machine.specs.{declared.state.Request.Request, Tests.is_applied}
-use Rattle.exec_moves.specs.{declared.handing.Heard.Heard, Slots.{Slots, vacated}, State.Desk, Told.{has_number, told_of_end, waker_of}}
-use Rattle.exec_parts.specs.{declared.parts.mail.Reply.Reply, Records.number_in, View.{awaited_from, awaits_entry, completions_in, results_in, slots_seen}}
-use Rattle.exec_invariants.{specs.Rooted.IsNear, proofs.{ServedEnds.{TellsEnd, answers_by, let_go_by}, Slotted.{OneSlot, awaited_over, awaited_removed, slots_vacated, slots_written}}}
+use Rattle.exec_invariants.{proofs.{Names.{◌≡◌, ℕ, ◌+◌, ◌==◌, not, Bool, false, List, [], ◌∷◌, ◌++◌, filter, length, map, Some, is_some, if◌then◌else◌, sym, ap, ◌∙◌, arith, append-nil, length-append, map-append, Slab, removed, Id, TaskNo, RequestOutput, finished_for, waker_in, is_held_by, Tells, Told, tasks_told as tasks_of, Deferred, Forwarded, Entry, Pending, Waiter, Request, is_applied, Heard, Slots, vacated, Desk, has_number, told_of_end, waker_of, Reply, number_in, awaited_from, awaits_entry, completions_in, results_in, slots_seen}, ServedEnds.{TellsEnd, answers_by, let_go_by}, Slotted.{OneSlot, awaited_over, awaited_removed, slots_vacated, slots_written}}, specs.Rooted.IsNear}
 
 -- what stands there that a step of this kind changes
 pub record OnDesk (d : Desk) (numbers : List ℕ) (s : Slab (Entry Reply Reply)) (left : Deferred Reply Reply) : Type 0 where

@@ -1,17 +1,7 @@
 -- What is seen of a request's end.
-use Rattle.std.proofs.{Common.{◌≡◌, ◌≢◌, ℕ, ◌==◌, true, false, not, List, [], ◌∷◌, filter, Option, Some, refl, sym, ◌∙◌, arith}}
-use Rattle.exec_base.specs.{Slab.Slab, declared.slab.Id.Id}
-use Rattle.exec_outcomes.specs.Accounts.{Account}
-use Rattle.exec_request.specs.States.{Ended}
-use Rattle.exec_waiters.specs.{Events.finished, States.{is_flying, flying_count, waiter_at}, declared.{waiter.{Entry.Entry, Waiter.Waiter}, waiter_id.WaiterId.WaiterId}}
-use Rattle.exec_lists.{specs.Lists.{is_among, without}, proofs.Counting.flying_is}
-use Rattle.exec_driver.proofs.Endings.{one_finished}
-use Rattle.exec_parts.{specs.{declared.parts.mail.Reply.Reply, Records.number_in, View.numbers_of}, proofs.Facts.{same_self}}
+use Rattle.exec_invariants.proofs.{Names.{◌≡◌, ◌≢◌, ℕ, ◌==◌, true, false, not, List, [], ◌∷◌, filter, Option, Some, refl, sym, ◌∙◌, arith, Slab, Id, Account, Ended, finished, is_flying, flying_count, waiter_at, Entry, Waiter, WaiterId, is_among, without, flying_is, one_finished, Reply, number_in, numbers_of, same_self}, Gated.first_in}
 
 -- THE NUMBERS of those that are left
-
-first_in : (x : WaiterId) (ids : List WaiterId) → is_among x (x ∷ ids) ≡ true
-first_in x ids = rw (same_self x) refl
 
 pub later_in : (x y : WaiterId) (ids : List WaiterId) → is_among y ids ≡ true → is_among y (x ∷ ids) ≡ true
 later_in = grind arith
@@ -35,6 +25,5 @@ without_first id ids = rw (same_self id) refl
 
 pub flying_ended : (s : Slab (Entry Reply Reply)) (id : Id) (it : Waiter Reply Reply) (how : Ended) (account : Option Account) → waiter_at s id ≡ Some it → it.in_flight ≡ false → flying_count (finished s id it how account) ≡ flying_count s
 flying_ended s id it how account at idle =
-    let one = one_finished s id it how account at in
-    let flying = rw idle at (one.numbers is_flying refl) in
+    let flying = rw idle at ((one_finished s id it how account at).numbers is_flying refl) in
     flying_is (finished s id it how account) ∙ omega (arith, flying) ∙ sym (flying_is s)

@@ -1,14 +1,5 @@
 -- The enrolment of a deadline is a step.
-use Rattle.std.{proofs.{Common.{◌≡◌, ℕ, ◌^◌, ◌<◌, ◌&&◌, arith, Bool, true, false, not, Option, Some, None, refl, sym, ap, ◌∙◌, slice_get, is_some}, lemmas.Bool.false≢true}, specs.{Prelude.unwrap_or, VecDeque.deque_capacity}}
-use Rattle.exec_base.specs.{Slab.value_at, declared.error.Error.Error}
-use Rattle.exec_outcomes.specs.Accounts.{is_durable}
-use Rattle.exec_request.specs.{Requests.{asked_of, deadline_of}, declared.request.Request.Request as Asking}
-use Rattle.exec_waiters.{specs.{States.{waiter_at, takes_tick}, declared.{waiter.Waiter.Waiter, waiter_id.WaiterId.WaiterId}}, proofs.Changes.entry_of}
-use Rattle.exec_driver.specs.{Driving.{request_at, is_unenrolled}, Punctual.IsPunctual, Steps.EnrolsAs}
-use Rattle.exec_lists.specs.Lists.{first_of}
-use Rattle.exec_machine.specs.{declared.{event.Event.{Event, TheVariants.Enrol}, state.RequestPhase.RequestPhase}, Deadlines.enrolled, Requests.joined_if, Tests.is_kept}
-use Rattle.exec_parts.{specs.{declared.parts.{mail.Reply.Reply, record.Record.Record, shared.Shared.Shared, worker.Worker.Worker}, Records.number_in, Serving.{changed_at, first_tick, outcome_of_error}, View.driver_of}, proofs.Facts.some_of}
-use Rattle.exec_invariants.{specs.{Names.IsAlike, Submits.IsNewIn}, proofs.{Known.low_there, ReapKinds.{durable_kept}, Staging.among_first, Starting.queued_phase}}
+use Rattle.exec_invariants.{proofs.{Names.{◌≡◌, ℕ, ◌^◌, ◌<◌, ◌&&◌, arith, Bool, true, false, not, Option, Some, None, refl, sym, ap, ◌∙◌, slice_get, is_some, false≢true, unwrap_or, deque_capacity, value_at, Error, is_durable, asked_of, deadline_of, Asking, waiter_at, takes_tick, Waiter, WaiterId, entry_of, request_at, is_unenrolled, IsPunctual, EnrolsAs, first_of, Event, Enrol, RequestPhase, enrolled, joined_if, is_kept, Reply, Record, Shared, Worker, number_in, changed_at, first_tick, outcome_of_error, driver_of, some_of}, Known.low_there, ReapKinds.durable_kept, Staging.among_first, Starting.queued_phase}, specs.{Names.IsAlike, Submits.IsNewIn}}
 
 -- THE FIRST NEW DEADLINE
 
@@ -44,8 +35,7 @@ module _ {B : Type 0} (w : Worker) (s : Shared B) (new : IsNewIn w s) (id : Wait
   new_by None gone = absurd (false≢true (ap is_unenrolled (sym gone) ∙ new.submits.lists.enrolments id (among_first id (driver_of w).lists.enrolments first)))
   new_by (Some it) live =
       let sound = new.submits.sound in
-      let waits : (not it.in_flight && takes_tick it.state && is_some (deadline_of it.request)) ≡ true = ap is_unenrolled (sym live) ∙ new.submits.lists.enrolments id (among_first id (driver_of w).lists.enrolments first) in
-      let parts = new_parts it.in_flight (takes_tick it.state) (is_some (deadline_of it.request)) waits in
+      let parts = new_parts it.in_flight (takes_tick it.state) (is_some (deadline_of it.request)) (ap is_unenrolled (sym live) ∙ new.submits.lists.enrolments id (among_first id (driver_of w).lists.enrolments first)) in
       let r = sound.named.requests id.0 (rw (entry_of (value_at (driver_of w).requests id.0) it live) refl) in
       let a = sound.named.alike id.0 it r.0 live r.1 in
       let d = some_of (deadline_of it.request) parts.2 in

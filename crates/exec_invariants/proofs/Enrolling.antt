@@ -1,13 +1,6 @@
 -- What an enrolment of a deadline gives, for the driver and for the machine.
-use Rattle.std.{proofs.{Common.{◌≡◌, ℕ, ◌+◌, ◌-◌, ◌*◌, ◌/◌, ◌^◌, ◌<◌, ◌≤◌, ◌&&◌, ◌||◌, Bool, true, false, not, Option, Some, None, refl, ap, ◌∙◌, arith, nat_le, nat_lt, if◌then◌else◌, Result, Ok, Err}, lemmas.{Bool.{Decides.nat_tests}}}, specs.Int.div_ceil}
-use Rattle.std.proofs.lemmas.Bool.{lt-ltb, leb-false}
-use Rattle.exec_base.specs.declared.error.{Cause.TheVariants.InvalidInput, Error.{Error, TheVariants.{Timeout, Io}}}
-use Rattle.exec_outcomes.specs.declared.outcome.Outcome.{Outcome, TheVariants.Failure}
-use Rattle.exec_time.specs.Wheel.{Wheel, target_of, moment_of}
-use Rattle.exec_driver.specs.Steps.{tick_by, tick_for, ended_by}
-use Rattle.exec_machine.specs.{declared.config.Configuration.Configuration, Deadlines.{outcome_at_enrol, tick_from}, Ranges.{wheel_slots}, World.Own}
-use Rattle.exec_parts.specs.Serving.{first_tick, outcome_of_error}
-use Rattle.exec_invariants.specs.Due.{IsWheelAt}
+use Rattle.exec_time.specs.Wheel.{target_of}
+use Rattle.exec_invariants.{proofs.Names.{◌≡◌, ℕ, ◌+◌, ◌-◌, ◌*◌, ◌/◌, ◌^◌, ◌<◌, ◌≤◌, ◌&&◌, ◌||◌, Bool, true, false, not, Option, Some, None, refl, ap, ◌∙◌, arith, nat_le, nat_lt, if◌then◌else◌, Result, Ok, Err, nat_tests, div_ceil, lt-ltb, leb-false, InvalidInput, Error, Timeout, Io, Outcome, Failure, Wheel, moment_of, tick_by, tick_for, ended_by, Configuration, outcome_at_enrol, tick_from, wheel_slots, Own, first_tick, outcome_of_error}, specs.Due.IsWheelAt}
 
 -- NUMBERS
 

@@ -1,15 +1,6 @@
 -- The request whose deadline has come first.
-use Rattle.std.{proofs.{Common.{◌≡◌, ℕ, suc, ◌<◌, ◌^◌, ◌&&◌, not, arith, Bool, true, false, List, [], ◌∷◌, length, Option, Some, None, refl, sym, ap, ◌∙◌, slice_get, slice_set, is_some, if◌then◌else◌, Err}, lemmas.Bool.false≢true}, specs.VecDeque.deque_capacity}
-use Rattle.exec_base.specs.{Slab.value_at, declared.error.Error.TheVariants.Timeout}
-use Rattle.exec_time.specs.Wheel.{Wheel, removed}
-use Rattle.exec_request.specs.{Requests.deadline_of, States.asks_cancel, declared.results.WaiterState.{WaiterState, TheVariants.{Active, CancelRequested}}}
-use Rattle.exec_waiters.{specs.{States.{waiter_at, tick_in, pending_count}, Told.Tells, declared.{waiter.Waiter.Waiter, waiter_id.WaiterId.WaiterId}}, proofs.Changes.entry_of}
-use Rattle.exec_driver.specs.{Driving.{request_at, is_enrolled}, Punctual.IsPunctual, Steps.{expired as expired_at, told_by_cancel, unscheduled}}
-use Rattle.exec_lists.specs.Lists.{first_of}
-use Rattle.exec_machine.specs.{declared.{event.Event.{Event, TheVariants.Expire}, state.{RequestPhase.RequestPhase, Request.Request}, config.Configuration.Configuration}, World.{Own, Common}, Deadlines.{outcome_at_expiry, expired, is_first_due}, Requests.joined_if, Tests.{is_in_flight, is_queued, is_gated}}
-use Rattle.exec_moves.specs.{Serve.first_numbered, State.{Desk}, Submit.{due_next, first_due, Due.Expires}}
-use Rattle.exec_parts.{specs.{declared.parts.{mail.Reply.Reply, record.Record.Record, shared.Shared.Shared, worker.Worker.Worker}, Records.number_in, Serving.{changed_at, changed_in}, View.driver_of}, proofs.Facts.some_of}
-use Rattle.exec_invariants.{specs.{Names.IsAlike, Submits.IsDueIn}, proofs.{Dating.{one_pending, room_by}, Enrolled.timed_free, Known.low_there, Resolving.slab_after, Staging.among_first}}
+use Rattle.exec_time.specs.Wheel.{removed}
+use Rattle.exec_invariants.{proofs.{Names.{◌≡◌, ℕ, suc, ◌<◌, ◌^◌, ◌&&◌, not, arith, Bool, true, false, List, [], ◌∷◌, length, Option, Some, None, refl, sym, ap, ◌∙◌, slice_get, slice_set, is_some, if◌then◌else◌, Err, false≢true, deque_capacity, value_at, Timeout, Wheel, deadline_of, asks_cancel, WaiterState, Active, CancelRequested, waiter_at, tick_in, Tells, Waiter, WaiterId, entry_of, request_at, is_enrolled, IsPunctual, expired_at, told_by_cancel, unscheduled, first_of, Event, Expire, RequestPhase, Request, Configuration, Own, Common, outcome_at_expiry, expired, is_first_due, joined_if, is_in_flight, is_queued, is_gated, first_numbered, Desk, due_next, first_due, Expires, Reply, Record, Shared, Worker, number_in, changed_at, changed_in, driver_of, some_of, Place, Id}, Enrolled.timed_free, Known.low_there, Resolving.slab_after, Staging.among_first}, specs.{Names.IsAlike, Submits.IsDueIn, Sound.SoundAt}}
 
 -- nobody asked for the cancel of what stands on the wheel
 unasked_by : (x : WaiterState) (t : ℕ) → tick_in x ≡ Some t → asks_cancel x ≡ false
@@ -31,6 +22,10 @@ pub record DueAt {B : Type 0} (w : Worker) (s : Shared B) (id : WaiterId) : Type
   pub ungated : is_gated r.shown.phase ≡ false
   pub dated : is_some (deadline_of it.request) ≡ true
   pub small : id.0.generation < 2 ^ 64
+
+-- there is room for the end of what isn't over
+pub room_ends : {B : Type 0} (q : Place) (w : Worker) (s : Shared B) → SoundAt q w s → (id : Id) (it : Waiter Reply Reply) → id.generation < 2 ^ 64 → waiter_at (driver_of w).requests id ≡ Some it → length w.names.ended.items < deque_capacity w.names.ended
+room_ends q w s sound id it small live = omega (arith, sound.over.counted, (slab_after (driver_of w).requests id it (Err Timeout) None small live).pending, sound.flown.ending)
 
 module _ {B : Type 0} (w : Worker) (s : Shared B) (due : IsDueIn w s) (id : WaiterId) (first : first_of (driver_of w).lists.due ≡ Some id) where
   due_by : (o : Option (Waiter Reply Reply)) → request_at (driver_of w) id ≡ o → DueAt w s id
@@ -60,11 +55,7 @@ module _ {B : Type 0} (w : Worker) (s : Shared B) (due : IsDueIn w s) (id : Wait
   due_first = due_by (request_at (driver_of w) id) refl
 
   pub due_room : length w.names.ended.items < deque_capacity w.names.ended
-  due_room =
-      let sound = due.submits.sound in
-      let who = due_first in
-      let pending = one_pending _ (pending_count (driver_of w).requests) (slab_after (driver_of w).requests id.0 who.it (Err Timeout) None who.small who.live).pending in
-      room_by (length w.names.ended.items) (pending_count (driver_of w).requests) w.names.unreleased (deque_capacity w.names.ended) sound.over.counted pending sound.flown.ending
+  due_room = room_ends _ w s due.submits.sound id.0 due_first.it due_first.small due_first.live
 
 -- what an expiry does to a request
 abbrev pub expires : Record → Record

@@ -1,12 +1,6 @@
 -- A sleeper of a worker fires: its record, and those who sleep still.
-use Rattle.std.{proofs.{Common.{◌≡◌, ◌≢◌, ℕ, suc, ◌<◌, ◌==◌, ◌&&◌, Bool, true, false, not, List, [], ◌∷◌, Some, None, IsSome, refl, sym, ap, subst, ◌∙◌, arith, slice_get, slice_set, if◌then◌else◌}, lemmas.{Bool.{false≢true, eq-eqb}, List.length-set}}, specs.List.list_all}
+use Rattle.exec_invariants.{proofs.{Names.{◌≡◌, ◌≢◌, ℕ, suc, ◌<◌, ◌==◌, ◌&&◌, Bool, true, false, not, List, [], ◌∷◌, Some, None, IsSome, refl, sym, ap, subst, ◌∙◌, arith, slice_get, slice_set, if◌then◌else◌, false≢true, eq-eqb, length-set, list_all, IsPast, Slab, value_at, Id, Sleeping, is_asleep, Reply, Names, SleeperRecord, number_in, by_number, same_number}, Flying.get_set, FiringNames.naps_set}, specs.Due.AreAsleep}
 pub use Rattle.std.proofs.lemmas.Bool.{le-leb}
-use Rattle.exec_base.specs.{Slab.{IsPast, Slab, value_at}, declared.slab.Id.Id}
-use Rattle.exec_time.specs.declared.timers.Sleeper.{Sleeper as Sleeping}
-use Rattle.exec_machine.specs.Tests.{is_asleep}
-use Rattle.exec_parts.{specs.{declared.parts.{mail.Reply.Reply, names.Names.Names, sleeping.SleeperRecord.SleeperRecord}, Records.number_in}, proofs.Facts.{by_number, same_number}}
-use Rattle.exec_invariants.proofs.Flying.{get_set}
-use Rattle.exec_invariants.{specs.Due.AreAsleep, proofs.FiringNames.naps_set}
 
 abbrev pub fires : SleeperRecord → SleeperRecord
 fires z = record z { shown = record z.shown { fired = true } }

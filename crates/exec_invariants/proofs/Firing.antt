@@ -1,12 +1,5 @@
 -- The end of a service: a sleeper is told, or the service leads on.
-use Rattle.std.{specs.Option.option_map, proofs.{Common.{◌≡◌, ℕ, zero, suc, ◌≤◌, ◌==◌, slice_index_or, ◌&&◌, Bool, true, false, not, List, [], ◌∷◌, map, Option, Some, None, IsSome, refl, sym, ap, subst, ◌∙◌, arith, slice_get, nat_le, if◌then◌else◌}, lemmas.{Bool.{false≢true}, Option.slice_get-map}}}
-use Rattle.exec_base.specs.{Slab.{Slab, value_at}, declared.slab.Id.Id}
-use Rattle.exec_time.specs.{Sleepers.IsDue as IsSleepDue, declared.{notes.Notes.Notes, timers.Sleeper.Sleeper as Sleeping}}
-use Rattle.exec_task.specs.declared.body.Said.{Said}
-use Rattle.exec_machine.specs.{declared.{event.Event.{Event, TheVariants.Serve}, state.{Sleeper.Sleeper, Next.Next}}, Deadlines.is_none_earlier, Tests.{is_asleep, is_empty, is_open}, World.{Own, Common, no_sleeper, seat_of}}
-use Rattle.exec_moves.specs.{Seen.{polls_at, next_at, serves_at}, State.Desk, Serve.{after_service, first_to_fire, is_to_fire}, Slots.first_in, declared.{handing.AfterCallbacks.AfterCallbacks, place.{AfterService.AfterService, Service.Service, Place.Place, InCallbacks.InCallbacks, InMail.InMail, InService.InService}}}
-use Rattle.exec_parts.{specs.{declared.parts.{mail.Reply.Reply, names.Names.Names, shared.Shared.Shared, sleeping.SleeperRecord.SleeperRecord, worker.{Moments.Moments, Worker.Worker}}, Phased.closes_at, Spots.Spot, View.{visible, own_of, owed_at, desk_of, driver_of, common_of, seat_seen, things_with, message_of}}, proofs.Facts.and_right}
-use Rattle.exec_invariants.{specs.{Due.{AreAsleep, wheel_moment}, Holding.Mail, HoldPlaces.{has_wakes_at, is_bare_at}, Places.{is_armed_at, is_published_at, passes_at, searches_at}, Sound.{HasBatch, SoundAt, served_in}, Works.Steps}, proofs.{Unclosed.unclosed, Seats.own_seat, Seen.sleeper_at, ServingHolds.{Serves, Keeps, KeepsBy}, Serving.{SparesRecords, at_large, balances_still, spares_same}, ServingPlaces.{is_calm}, Seeing.{makes, served, common_same, things_kept}}}
+use Rattle.exec_invariants.{proofs.{Names.{option_map, ◌≡◌, ℕ, zero, suc, ◌≤◌, ◌==◌, slice_index_or, ◌&&◌, Bool, true, false, not, List, [], ◌∷◌, map, Option, Some, None, IsSome, refl, sym, ap, subst, ◌∙◌, arith, slice_get, nat_le, if◌then◌else◌, false≢true, slice_get-map, Slab, value_at, Id, IsSleepDue, Notes, Sleeping, Said, Event, Serve, Sleeper, Next, is_none_earlier, is_asleep, is_empty, is_open, Own, Common, no_sleeper, seat_of, polls_at, next_at, serves_at, Desk, after_service, first_to_fire, is_to_fire, first_in, AfterCallbacks, AfterService, Service, Place, InCallbacks, InMail, InService, Reply, Names, Shared, SleeperRecord, Moments, Worker, closes_at, Spot, visible, own_of, owed_at, desk_of, driver_of, common_of, seat_seen, things_with, message_of, and_right, not-true}, Unclosed.unclosed, Seats.own_seat, Seen.sleeper_at, ServingHolds.{Serves, Keeps, KeepsBy}, Serving.{SparesRecords, at_large, balances_still, spares_same}, ServingPlaces.is_calm, Seeing.{makes, served, common_same, things_kept}}, specs.{Due.{AreAsleep, wheel_moment}, Holding.Mail, HoldPlaces.{has_wakes_at, is_bare_at}, Places.{is_armed_at, is_published_at, passes_at, searches_at}, Sound.{HasBatch, SoundAt, served_in}, Works.Steps}}
 
 -- WHO IS NEXT
 
@@ -24,10 +17,8 @@ undue_sleeper : {closing : Bool} (i now : ℕ) (n : Names) (zs : Slab (Sleeping 
 undue_sleeper i now n zs ss asleep opens none k z there false is = refl
 undue_sleeper i now n zs ss asleep opens none k z there true is =
     let kept = unclosed i n zs ss asleep opens k z there is in
-    let live = asleep.there k z there is kept in
-    let number = asleep.named k z there is kept in
-    let it = some_value (value_at zs z.id.0) live in
-    let alike = asleep.alike z.id.0 it.0 z it.1 (ap (slice_get ss) number ∙ there) in
+    let it = some_value (value_at zs z.id.0) (asleep.there k z there is kept) in
+    let alike = asleep.alike z.id.0 it.0 z it.1 (ap (slice_get ss) (asleep.named k z there is kept) ∙ there) in
     let late : z.shown.until ≤ now → ⊥ = λ due. none z.id.0 (record { sleeper = it.0; there = it.1; due = subst (λ t. t ≤ now) alike.until due }) in
     rw (not_yet now z.shown.until late) refl
   where
@@ -62,12 +53,8 @@ none_first test none (Some k ∷ xs) = ap (λ b. if b then Some k else first_in 
 pub none_fires : {closing : Bool} (i : ℕ) (me : Own) (s : Common) (d : Desk) (n : Names) (zs : Slab (Sleeping Reply)) (ss : List SleeperRecord) → s.sleepers ≡ map (λ z. z.shown) ss → AreAsleep closing i n zs ss → is_open (seat_of s i).phase ≡ not closing → ((id : Id) → IsSleepDue zs me.sampled id → ⊥) → first_to_fire i me s d ≡ None
 none_fires {closing} i me s d n zs ss shown asleep phase none = none_by (is_open (seat_of s i).phase) refl
   where
-    open_only : (b : Bool) → true ≡ not b → b ≡ false
-    open_only false is = refl
-    open_only true is = is
-
     none_by : (b : Bool) → is_open (seat_of s i).phase ≡ b → (if b then first_in (is_to_fire i me s) d.timers.held else None) ≡ None
-    none_by true is = none_first (is_to_fire i me s) (undue_number i me s n zs ss shown asleep (open_only closing (sym is ∙ phase)) none) d.timers.held
+    none_by true is = none_first (is_to_fire i me s) (undue_number i me s n zs ss shown asleep (not-true closing (sym phase ∙ is)) none) d.timers.held
     none_by false is = refl
 
 -- WHERE THE SERVICE LEADS
@@ -115,8 +102,7 @@ module _ {B L : Type 0} (left : B → L) (spot : L → Option Said → Spot) whe
   service_over v w w' s e sound event none is =
       let q : Place = Place.Service InService.EndService v in
       let p : Place = place_after v.back (is_empty w.batch.values) in
-      let goes : after_service v.back (desk_of w) ≡ p = leads_on v.back (desk_of w) w.batch.values refl in
-      let same : w' ≡ record w { place = p } = is ∙ ap (λ x. record w { place = x }) goes in
+      let same : w' ≡ record w { place = p } = is ∙ ap (λ x. record w { place = x }) (leads_on v.back (desk_of w) w.batch.values refl) in
       let there : w'.place ≡ p = ap (λ x. x.place) same in
       let to = leads_to v.defer v.back w.batch.values in
       let serves : Serves q w w' s s = grind arith in
@@ -128,12 +114,11 @@ module _ {B L : Type 0} (left : B → L) (spot : L → Option Said → Spot) whe
       (λ pl vs suits.
       let w0 : Worker = record w { place = q } in
       let all = common_of left spot pl vs s in
-      let goes0 : after_service v.back (desk_of w0) ≡ p = leads_on v.back (desk_of w0) w.batch.values refl in
       let phased = sound.phased sound.seated.seat sound.seated.there in
       let phase : is_open (seat_of all w.index).phase ≡ not w.home.closing = ap (λ x. is_open x.phase) (own_seat left spot pl vs w s sound.seated.seat suits sound.seated.there) ∙ phased.opened ∙ ap not (sym phased.told) in
       let fires = none_fires w.index (own_of w0) all (desk_of w0) w.names w.home.timers s.sleepers.items refl sound.due.asleep phase none in
       record {
-        moves = rw fires (ap (λ x. makes Serve (record (desk_of w0) { place = x }) (things_with vs s)) goes0 ∙ ap (λ x. makes Serve x (things_with vs s)) (sym (ap desk_of same))
+        moves = rw fires (ap (λ x. makes Serve (record (desk_of w0) { place = x }) (things_with vs s)) (leads_on v.back (desk_of w0) w.batch.values refl) ∙ ap (λ x. makes Serve x (things_with vs s)) (sym (ap desk_of same))
             ∙ ap (makes Serve (desk_of w')) (sym (things_kept vs w.index (visible w) (visible w') s s suits.seen (ap (λ v. v.wakes) (ap visible same)) refl spares)));
         may = (at_large q w s sound refl, tt);
         own = ap own_of same ∙ rw (to.serves, to.polls, to.next, to.owes w.workers) refl;

@@ -1,11 +1,5 @@
 -- The names of a worker's sleepers: each is of one alone, and none is given again.
-use Rattle.std.proofs.{Common.{◌≡◌, inl, inr, ℕ, zero, suc, ◌^◌, ◌<◌, ◌≤◌, List, [], ◌∷◌, ◌++◌, length, Some, IsSome, refl, sym, ap, subst, ◌∙◌, arith, slice_get, slice_set}, lemmas.List.length-append}
-use Rattle.exec_base.{specs.{Slab.{IsPast, Slab, TakesId, freed, next_generation, removed, slot_at, value_at}, declared.slab.Id.Id}, proofs.Slots.{Changed-set, IsLiveAt-from_value, live_within, past-free, was_live}}
-use Rattle.exec_time.specs.declared.timers.Sleeper.{Sleeper as Sleeping}
-use Rattle.exec_driver.specs.Driving.{Driving}
-use Rattle.exec_parts.{specs.{declared.parts.{mail.Reply.Reply, names.Names.Names, record.Record.Record, sleeping.SleeperRecord.SleeperRecord}, Records.number_in}, proofs.Facts.{by_number, same_Some, set_elsewhere, set_there}}
-use Rattle.exec_invariants.proofs.Taken.{was_got}
-use Rattle.exec_invariants.specs.{Due.AreNapsNamed, Names.IsNamed}
+use Rattle.exec_invariants.{proofs.{Names.{◌≡◌, inl, inr, ℕ, zero, suc, ◌^◌, ◌<◌, ◌≤◌, List, [], ◌∷◌, ◌++◌, length, Some, IsSome, refl, sym, ap, subst, ◌∙◌, arith, slice_get, slice_set, length-append, IsPast, Slab, TakesId, freed, next_generation, removed, slot_at, value_at, Id, Changed-set, IsLiveAt-from_value, live_within, past-free, was_live, Sleeping, Driving, Reply, Names, Record, SleeperRecord, number_in, by_number, same_Some, set_elsewhere, set_there}, Taken.was_got}, specs.{Due.AreNapsNamed, Names.IsNamed}}
 
 -- a sleeper of the worker stood there under this name
 pub record WasNap (i : ℕ) (ss : List SleeperRecord) (k : ℕ) (r' : SleeperRecord) : Type 0 where
@@ -42,20 +36,18 @@ module _ (i : ℕ) (zs zs' : Slab (Sleeping Reply)) (ss : List SleeperRecord) (z
   -- and no slot was taken more often than there are sleepers
   pub counted_joined : ((id : Id) → IsPast zs id → id.generation < length ss) → (id : Id) → IsPast zs' id → id.generation < length (ss ++ z ∷ [])
   counted_joined counted id past =
-      let more = length-append ss (z ∷ []) in
       elim ((takes.past id).0 past) [
-        | inl old ↦ (let below = counted id old in omega (arith, below, more))
+        | inl old ↦ (let below = counted id old in omega (arith, below, length-append ss (z ∷ [])))
         | inr new ↦ by id.generation refl new
       ]
     where
       by : (g : ℕ) → id.generation ≡ g → id ≡ z.id.0 → id.generation < length (ss ++ z ∷ [])
       by zero is new = (let more = length-append ss (z ∷ []) in omega (arith, is, more))
       by (suc g) is new =
-          let more = length-append ss (z ∷ []) in
           let before : Id = record { index = id.index; generation = g } in
           let lower : IsPast zs' before = (let e : id.generation < next_generation (slot_at zs' id.index) = past in omega (arith, e, is)) in
           elim ((takes.past before).0 lower) [
-            | inl old ↦ (let below = counted before old in omega (arith, below, more, is))
+            | inl old ↦ (let below = counted before old in omega (arith, below, length-append ss (z ∷ []), is))
             | inr same ↦ absurd (let e : g ≡ id.generation = ap (λ (x : Id). x.generation) (same ∙ sym new) in omega (arith, e, is))
           ]
 
@@ -64,8 +56,7 @@ pub removed_past : (zs : Slab (Sleeping Reply)) (id : Id) → IsSome (value_at z
 removed_past zs id some small other =
     let was = was_live zs id some in
     let live = IsLiveAt-from_value zs.slots id.index id.generation zs.first some in
-    let changed = Changed-set zs (removed zs id) id.index (freed id.generation) refl refl (live_within zs.slots id.index id.generation live.value live.is) in
-    let both = past-free zs (removed zs id) id was.0 small changed was.1 other in
+    let both = past-free zs (removed zs id) id was.0 small (Changed-set zs (removed zs id) id.index (freed id.generation) refl refl (live_within zs.slots id.index id.generation live.value live.is)) was.1 other in
     (both.0, both.1)
 
 -- A sleeper whose name is there has the number of that.

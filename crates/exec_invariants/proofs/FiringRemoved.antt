@@ -1,13 +1,6 @@
 -- A task lets go of a sleeper of the worker: what holds again, and what stands on the desk then.
-use Rattle.std.proofs.{Common.{◌≡◌, ◌≢◌, ℕ, suc, ◌+◌, ◌^◌, ◌≤◌, ◌<◌, ◌==◌, ◌&&◌, ◌||◌, not, Bool, true, false, Contains, List, [], ◌∷◌, ◌++◌, count_by, length, map, nat_lt, Option, Some, None, IsSome, Err, refl, sym, ap, subst, ◌∙◌, arith, slice_get, slice_index_or, slice_set, if◌then◌else◌}, lemmas.{Bool.{false≢true, eq-eqb}, List.{append-nil, length-append, length-set, map-append}}}
-use Rattle.exec_base.{specs.{Slab.{Slab, freed, is_live, live_count, removed, value_at}, declared.{error.Error.TheVariants.Closed, slab.{Id.Id, Slot.{Slot, TheVariants.{Retired, Vacant}}}, task_no.TaskNo.TaskNo}}, proofs.Slots.{Changed-set, IsLiveAt-from_value, Updates-free, count-set, live_within, was_live}}
-use Rattle.exec_time.specs.{Notes.Adds, Sleepers.completions_of, declared.{notes.ForwardedResult.ForwardedResult, timers.{Observer.Observer as Watching, Sleeper.Sleeper as Sleeping}}}
-use Rattle.exec_time.specs.declared.timers.Observer.TheVariants as sleep
-use Rattle.exec_waiters.specs.declared.deferred.Deferred.{Deferred}
-use Rattle.exec_machine.specs.Tests.{is_applied, is_asleep}
-use Rattle.exec_moves.specs.{Slots.{is_in_slots, slot_of, vacated}, Told.{one_completion, told_of_cancel, without_timer}, declared.handing.Heard.Heard}
-use Rattle.exec_parts.{specs.{declared.parts.{mail.Reply.Reply, shared.Shared.Shared, sleeping.SleeperRecord.SleeperRecord, worker.Worker.Worker}, Calls.{sleeper_removed, IsTold}, MailTakes.RemovesSleeper, Records.number_in, View.{completions_in, desk_of, driver_of, number_heard, slots_from, slots_seen}}, proofs.Facts.{not_same}}
-use Rattle.exec_invariants.{specs.{Due.{AreAsleep, IsDue}, Places.one_if, Rooted.{IsRooted, Watches, completions_of as sent_of, ends_elsewhere, is_of_timer}, Names.{HasWidth, tellers}, HoldPlaces.{is_bare_at, has_wakes_at}, Sound.served_in}, proofs.{FiringGone.{IsOverAs, Leaves, asleep_over, named_over, rooted_over}, FiringNames.{removed_past, stands}, FiringSeen.{bed_named, one_bed}, FiringSlots.{OneBed, bed_in, bed_vacated}, ServedEnds.{count_none, count_one, none_in, only_one}, ServingHolds.{KeepsSpare, KeepsWith}, TaskOverGone.RemovesSeen}}
+use Rattle.exec_invariants.{proofs.{Names.{◌≡◌, ◌≢◌, ℕ, ◌+◌, ◌^◌, ◌≤◌, ◌<◌, ◌==◌, ◌&&◌, ◌||◌, not, Bool, true, false, Contains, List, [], ◌∷◌, ◌++◌, count_by, length, map, nat_lt, Some, None, IsSome, Err, refl, sym, ap, subst, ◌∙◌, arith, slice_get, slice_index_or, slice_set, if◌then◌else◌, false≢true, eq-eqb, append-nil, length-append, length-set, map-append, Slab, freed, is_live, live_count, removed, value_at, Closed, Id, Retired, Vacant, TaskNo, Changed-set, IsLiveAt-from_value, Updates-free, count-set, live_within, was_live, Adds, completions_of, ForwardedResult, Watching, Sleeping, sleep, Deferred, is_applied, is_asleep, is_in_slots, slot_of, vacated, one_completion, told_of_cancel, without_timer, Heard, Reply, Shared, SleeperRecord, Worker, sleeper_removed, IsTold, RemovesSleeper, number_in, completions_in, desk_of, driver_of, number_heard, slots_from, slots_seen, not_same, and_right, is_some}, FiringSlots.{IsOverAs, Leaves, asleep_over, named_over, rooted_over, OneBed, bed_in, bed_vacated}, FiringNames.{removed_past, stands}, FiringSeen.{bed_named, one_bed}, ServedEnds.{count_none, count_one, none_in, only_one}, ServingHolds.{KeepsSpare, KeepsWith}, TaskOverGone.RemovesSeen}, specs.{Due.{AreAsleep, IsDue}, Places.one_if, Rooted.{IsRooted, Watches, completions_of as sent_of, ends_elsewhere, is_of_timer}, Names.{HasWidth, tellers}, HoldPlaces.{is_bare_at, has_wakes_at}, Sound.served_in}}
+pub use Rattle.exec_invariants.proofs.FiringSlots.{slot_none}
 
 -- ITS RECORD
 
@@ -34,30 +27,14 @@ one_less : (zs : Slab (Sleeping Reply)) (id : Id) (it : Sleeping Reply) → valu
 one_less zs id it at =
     let dead : (g : ℕ) → is_live {T = Sleeping Reply} (freed g) ≡ false = λ g. elim (nat_lt (g + 1) (2 ^ 64)) as (λ b. is_live {T = Sleeping Reply} (if b then Vacant (g + 1) else Retired) ≡ false) [ true ↦ refl | false ↦ refl ] in
     let live = IsLiveAt-from_value zs.slots id.index id.generation zs.first (rw at refl) in
-    let moved = count-set zs.slots id.index (freed id.generation) (live_within zs.slots id.index id.generation live.value live.is) in
-    omega (arith, rw (live.is, dead id.generation) at moved)
+    omega (arith, rw (live.is, dead id.generation) at (count-set zs.slots id.index (freed id.generation) (live_within zs.slots id.index id.generation live.value live.is)))
 
 gone_from : (zs : Slab (Sleeping Reply)) (id : Id) → IsSome (value_at zs id) → (value_at (removed zs id) id ≡ None) × ((other : Id) → other ≢ id → value_at (removed zs id) other ≡ value_at zs other)
 gone_from zs id some =
     let was = was_live zs id some in
     let live = IsLiveAt-from_value zs.slots id.index id.generation zs.first some in
-    let changed = Changed-set zs (removed zs id) id.index (freed id.generation) refl refl (live_within zs.slots id.index id.generation live.value live.is) in
-    let map = Updates-free zs (removed zs id) id was.0 changed was.1 in
+    let map = Updates-free zs (removed zs id) id was.0 (Changed-set zs (removed zs id) id.index (freed id.generation) refl refl (live_within zs.slots id.index id.generation live.value live.is)) was.1 in
     (map.changed, map.others)
-
--- THE SLOTS, where none has this number
-pub slot_none : {T : Type 0} (n k : ℕ) (numbers : List ℕ) (slots : List (Slot T)) → ((j : ℕ) (x : Slot T) → slice_get slots j ≡ Some x → is_live x ≡ true → slice_index_or numbers (k + j) 0 ≡ n → ⊥) → slot_of n k (slots_from k numbers slots) ≡ None
-slot_none n k numbers [] others = refl
-slot_none {T} n k numbers (x ∷ slots) others =
-    by (is_live x) refl
-    ∙ slot_none n (suc k) numbers slots (λ j y at alive same. others (suc j) y at alive (ap (λ m. slice_index_or numbers m 0) (let e : k + suc j ≡ suc k + j = omega arith in e) ∙ same))
-  where
-    by : (b : Bool) → is_live x ≡ b → slot_of n k (slots_from k numbers (x ∷ slots)) ≡ slot_of n (suc k) (slots_from (suc k) numbers slots)
-    by true alive =
-        let other : n ≡ slice_index_or numbers k 0 → ⊥ = λ same. others 0 x refl alive (ap (λ m. slice_index_or numbers m 0) (let e : k + 0 ≡ k = omega arith in e) ∙ sym same) in
-        ap (λ b. slot_of n k ((if b then Some (slice_index_or numbers k 0) else None) ∷ slots_from (suc k) numbers slots)) alive
-        ∙ ap (λ b. if b then Some k else slot_of n (suc k) (slots_from (suc k) numbers slots)) (not_same n (slice_index_or numbers k 0) other)
-    by false dead = ap (λ b. slot_of n k ((if b then Some (slice_index_or numbers k 0) else None) ∷ slots_from (suc k) numbers slots)) dead
 
 module _ {B : Type 0} (spare z : ℕ) (w v : Worker) (s s' : Shared B) (keeps : KeepsSpare spare w s) (r : RemovesSleeper z w v s s') (mine : r.it.shown.worker ≡ w.index) where
   abbrev zs : Slab (Sleeping Reply)
@@ -102,20 +79,18 @@ module _ {B : Type 0} (spare z : ℕ) (w v : Worker) (s s' : Shared B) (keeps : 
       let left = w.home.deferred in
       let left' = v.home.deferred in
       let over = removed_as i r.it in
-      let wakes : v.home.deferred.notes.wakes.items ≡ w.home.deferred.notes.wakes.items = adds.wakes_added ∙ append-nil w.home.deferred.notes.wakes.items in
       let w1 : Worker = record w { home = record w.home { timers = v.home.timers; deferred = record w.home.deferred { notes = v.home.deferred.notes } } } in
       let due = keeps.due in
       let told_so : IsTold w1.names.ended.items w1.home.deferred (tellers d.requests zs_then + spare) = subst (λ x. IsTold n.ended.items x (tellers d.requests zs_then + spare)) deferred
       (told_adds n.ended.items left left' (tellers d.requests zs + spare) (tellers d.requests zs_then + spare) [] cs deferred adds (omega (arith, fewer)) (omega (arith, fewer)) keeps.told) in
       let wide = subst (λ x. HasWidth x (tellers d.requests zs_then + 64)) deferred (wide_adds left left' (tellers d.requests zs + 64) (tellers d.requests zs_then + 64) [] cs deferred adds (omega (arith, fewer)) keeps.wide) in
-      let named = named_over i n d zs zs_then rs ss z r.it z' r.sleeper over leaves keeps.named in
-      let quiet : has_wakes_at w1.place ≡ false → w1.home.deferred.notes.wakes.items ≡ [] = λ h. wakes ∙ keeps.quiet h in
+      let quiet : has_wakes_at w1.place ≡ false → w1.home.deferred.notes.wakes.items ≡ [] = λ h. (adds.wakes_added ∙ append-nil w.home.deferred.notes.wakes.items) ∙ keeps.quiet h in
       let due_so : IsDue (served_in w1.place) w1.home.closing w1.index w1.moments s.config w1.names d zs_then rs ss' =
       record { punctual = due.punctual; told = due.told; wheel = due.wheel; timed = due.timed; asleep = asleep_over i n d zs zs_then rs ss z r.it z' r.sleeper over leaves asleep; order = due.order } in
       let rooted : IsRooted w1.index w1.names d zs_then w1.home.deferred rs ss' = subst (λ x. IsRooted i n d zs_then x rs ss') deferred
       (rooted_over i n d zs zs_then rs ss z r.it z' r.sleeper over leaves left left' cs keeps.rooted deferred adds.completions_added mine few none (here ∙ ap one_if (sym (ends_then r.it)))) in
       let bare : is_bare_at w1.place ≡ true → live_count zs_then ≡ 0 = λ h. (let nobody = keeps.bare h in omega (arith, nobody, fewer)) in
-      let by : KeepsWith spare w1 d zs_then rs ss' s = assumption (told_so, wide, named, quiet, due_so, rooted, bare, keeps) in
+      let by : KeepsWith spare w1 d zs_then rs ss' s = assumption (told_so, wide, named_over i n d zs zs_then rs ss z r.it z' r.sleeper over leaves keeps.named, quiet, due_so, rooted, bare, keeps) in
       let by_worker : KeepsWith spare v (driver_of v) v.home.timers rs s'.sleepers.items s =
       subst (λ x. KeepsWith spare x (driver_of x) x.home.timers rs s'.sleepers.items s) (sym r.worker)
       (subst (λ xs. KeepsWith spare w1 d zs_then rs xs s) (sym r.sleepers) by) in
@@ -152,10 +127,7 @@ module _ {B : Type 0} (spare z : ℕ) (w v : Worker) (s s' : Shared B) (keeps : 
     awake_not = by (r.it.shown.worker == w.index) r.it.shown.fired r.it.shown.removed sleeps
       where
         by : (a f r : Bool) → ((a && not f) && not r) ≡ true → (f ≡ false) × (r ≡ false)
-        by true true r h = absurd (false≢true h)
-        by true false true h = absurd (false≢true h)
-        by true false false h = (refl, refl)
-        by false f r h = absurd (false≢true h)
+        by = grind arith
 
     unclosed : r.it.closed ≡ false
     unclosed = (keeps.due.asleep.alike r.it.id.0 bed r.it was there).unclosed
@@ -165,20 +137,15 @@ module _ {B : Type 0} (spare z : ℕ) (w v : Worker) (s s' : Shared B) (keeps : 
 
     nothing_sent : sent_of z w.home.deferred + one_if r.it.sent ≡ 0
     nothing_sent =
-        before ∙ ap one_if (ap (λ b. is_applied r.it.shown.forwarding && (b || (r.it.shown.removed || r.it.closed))) awake_not.0 ∙ ap (λ b. is_applied r.it.shown.forwarding && (b || r.it.closed)) awake_not.1 ∙ ap (λ b. is_applied r.it.shown.forwarding && b) unclosed ∙ by (is_applied r.it.shown.forwarding))
-      where
-        by : (b : Bool) → (b && false) ≡ false
-        by true = refl
-        by false = refl
+        before ∙ ap one_if (ap (λ b. is_applied r.it.shown.forwarding && (b || (r.it.shown.removed || r.it.closed))) awake_not.0 ∙ ap (λ b. is_applied r.it.shown.forwarding && (b || r.it.closed)) awake_not.1 ∙ ap (λ b. is_applied r.it.shown.forwarding && b) unclosed ∙ and_right (is_applied r.it.shown.forwarding) false refl)
 
     leaves : Leaves w.names z w.home.timers v.home.timers
     leaves =
         let map = gone_from zs id some in
-        let low = its_bed.low in
-        let small : r.it.id.0.generation < 2 ^ 64 = omega (arith, low) in
+        let small : r.it.id.0.generation < 2 ^ 64 = omega (arith, its_bed.low) in
         subst (λ x. Leaves w.names z zs x) (sym gone.0) (record {
           others = λ other live.
-              let differs : other ≢ id = λ e. false≢true (sym (ap is_some_in (ap (value_at (removed zs id)) e ∙ map.0)) ∙ live) in
+              let differs : other ≢ id = λ e. false≢true (sym (ap is_some (ap (value_at (removed zs id)) e ∙ map.0)) ∙ live) in
               let same = map.1 other differs in
               (same, λ e. differs (sym (apart other (subst IsSome same live) e)));
           stays = λ other live unlike. map.1 other (λ e. unlike (sym number ∙ ap (number_in w.names.timers.items) (sym e)));
@@ -186,17 +153,12 @@ module _ {B : Type 0} (spare z : ℕ) (w v : Worker) (s s' : Shared B) (keeps : 
           back = λ other. (removed_past zs id some small other).0;
           on = λ other. (removed_past zs id some small other).1;
         })
-      where
-        is_some_in : Option (Sleeping Reply) → Bool
-        is_some_in None = false
-        is_some_in (Some x) = true
 
     sends : (o : Watching Reply) → bed.observer ≡ o → (c : ForwardedResult Reply) → Contains (completions_of (Err Closed) o) c → (c.sender ≡ record { task = record { 0 = r.it.shown.task }; of = Heard.Timer z }) × (r.it.shown.wakes_paid ≤ 1)
     sends (sleep.Local t) is c among = absurd (none_in c among)
     sends (sleep.Forwarded reply) is c among =
         let made : ForwardedResult Reply = record { sender = reply; result = Err Closed } in
-        let free = unpaid in
-        (ap (λ (x : ForwardedResult Reply). x.sender) (sym (only_one made c among)) ∙ (subst (λ o. Watches z o r.it) is watching).0, omega (arith, free))
+        (ap (λ (x : ForwardedResult Reply). x.sender) (sym (only_one made c among)) ∙ (subst (λ o. Watches z o r.it) is watching).0, omega (arith, unpaid))
 
     sends_none : (o : Watching Reply) → bed.observer ≡ o → (j : ℕ) → (z ≡ j → ⊥) → count_by (λ (c : ForwardedResult Reply). is_of_timer j c.sender.of) (completions_of (Err Closed) o) ≡ 0
     sends_none (sleep.Local t) is j differs = count_none (λ (c : ForwardedResult Reply). is_of_timer j c.sender.of)
@@ -206,8 +168,7 @@ module _ {B : Type 0} (spare z : ℕ) (w v : Worker) (s s' : Shared B) (keeps : 
 
     sends_here : (o : Watching Reply) → bed.observer ≡ o → count_by (λ (c : ForwardedResult Reply). is_of_timer z c.sender.of) (completions_of (Err Closed) o) ≡ one_if (is_applied r.it.shown.forwarding)
     sends_here (sleep.Local t) is =
-        let watch : Watches z (sleep.Local t) r.it = subst (λ o. Watches z o r.it) is watching in
-        count_none (λ (c : ForwardedResult Reply). is_of_timer z c.sender.of) ∙ sym (ap one_if watch.1)
+        count_none (λ (c : ForwardedResult Reply). is_of_timer z c.sender.of) ∙ sym (ap one_if (subst (λ o. Watches z o r.it) is watching).1)
     sends_here (sleep.Forwarded reply) is =
         let watch : Watches z (sleep.Forwarded reply) r.it = subst (λ o. Watches z o r.it) is watching in
         count_one (λ (c : ForwardedResult Reply). is_of_timer z c.sender.of) (record { sender = reply; result = Err Closed }) true (ap (λ (x : Reply). is_of_timer z x.of) watch.0 ∙ eq-eqb z z refl) ∙ sym (ap one_if watch.1)
@@ -215,10 +176,8 @@ module _ {B : Type 0} (spare z : ℕ) (w v : Worker) (s s' : Shared B) (keeps : 
     keeps_bed : KeepsSpare spare v s'
     keeps_bed =
         let less : live_count v.home.timers + 1 ≡ live_count w.home.timers = ap (λ (x : Slab (Sleeping Reply)). live_count x + 1) gone.0 ∙ one_less zs id bed was in
-        let few = one_end_at_most bed.observer in
         let one_of = sends_here bed.observer refl in
-        let zero_of = nothing_sent in
-        keeps_by (completions_of (Err Closed) bed.observer) gone.1 leaves (omega (arith, less, few)) (sends bed.observer refl) (sends_none bed.observer refl) (omega (arith, one_of, zero_of))
+        keeps_by (completions_of (Err Closed) bed.observer) gone.1 leaves (omega (arith, less, one_end_at_most bed.observer)) (sends bed.observer refl) (sends_none bed.observer refl) (omega (arith, one_of, nothing_sent))
 
     slots : slots_seen w.names.timers.items v.home.timers ≡ vacated z (slots_seen w.names.timers.items w.home.timers)
     slots =
@@ -237,9 +196,8 @@ module _ {B : Type 0} (spare z : ℕ) (w v : Worker) (s s' : Shared B) (keeps : 
         by : (o : Watching Reply) → bed.observer ≡ o → v.home.deferred.notes.completions.items ≡ w.home.deferred.notes.completions.items ++ completions_of (Err Closed) bed.observer
             → record (without_timer z (desk_of w)) { completions = completions_in v.home.deferred.notes.completions.items } ≡ (if is_applied r.it.shown.forwarding then one_completion z (without_timer z (desk_of w)) else without_timer z (desk_of w))
         by (sleep.Local t) is added =
-            let watch : Watches z (sleep.Local t) r.it = subst (λ o. Watches z o r.it) is watching in
             ap (λ cs. record (without_timer z (desk_of w)) { completions = completions_in cs }) (added ∙ ap (λ o. w.home.deferred.notes.completions.items ++ completions_of (Err Closed) o) is ∙ append-nil w.home.deferred.notes.completions.items)
-            ∙ sym (ap (λ b. if b then one_completion z (without_timer z (desk_of w)) else without_timer z (desk_of w)) watch.1)
+            ∙ sym (ap (λ b. if b then one_completion z (without_timer z (desk_of w)) else without_timer z (desk_of w)) (subst (λ o. Watches z o r.it) is watching).1)
         by (sleep.Forwarded reply) is added =
             let watch : Watches z (sleep.Forwarded reply) r.it = subst (λ o. Watches z o r.it) is watching in
             ap (λ cs. record (without_timer z (desk_of w)) { completions = cs })
@@ -255,29 +213,18 @@ module _ {B : Type 0} (spare z : ℕ) (w v : Worker) (s s' : Shared B) (keeps : 
     still = r.gone none
 
     nobody : IsSome (value_at w.home.timers r.it.id.0) → ⊥
-    nobody live = false≢true (sym (ap is_some_in none) ∙ live)
-      where
-        is_some_in : Option (Sleeping Reply) → Bool
-        is_some_in None = false
-        is_some_in (Some x) = true
+    nobody live = false≢true (sym (ap is_some none) ∙ live)
 
     -- it was over
     ends_before : ends_elsewhere r.it ≡ is_applied r.it.shown.forwarding
     ends_before = by r.it.shown.fired r.it.shown.removed r.it.closed refl refl refl
       where
-        all_true : (b : Bool) → (b && true) ≡ b
-        all_true true = refl
-        all_true false = refl
-
         by : (f r' c : Bool) → r.it.shown.fired ≡ f → r.it.shown.removed ≡ r' → r.it.closed ≡ c → ends_elsewhere r.it ≡ is_applied r.it.shown.forwarding
-        by true r' c fired removed closed = ap (λ b. is_applied r.it.shown.forwarding && (b || (r.it.shown.removed || r.it.closed))) fired ∙ all_true (is_applied r.it.shown.forwarding)
-        by false true c fired removed closed =
-            ap (λ b. is_applied r.it.shown.forwarding && (b || (r.it.shown.removed || r.it.closed))) fired ∙ ap (λ b. is_applied r.it.shown.forwarding && (b || r.it.closed)) removed ∙ all_true (is_applied r.it.shown.forwarding)
-        by false false true fired removed closed = grind (arith, fired, removed, closed, all_true (is_applied r.it.shown.forwarding))
         by false false false fired removed closed =
             let here : is_asleep w.index r.it.shown ≡ true =
             ap (λ b. (b && not r.it.shown.fired) && not r.it.shown.removed) (eq-eqb r.it.shown.worker w.index mine) ∙ ap (λ b. (true && not b) && not r.it.shown.removed) fired ∙ ap (λ b. (true && not false) && not b) removed in
             absurd (nobody (keeps.due.asleep.there z r.it r.sleeper here closed))
+        by _ _ _ fired removed closed = grind (arith, fired, removed, closed)
 
     leaves_none : Leaves w.names z w.home.timers v.home.timers
     leaves_none =
@@ -291,10 +238,9 @@ module _ {B : Type 0} (spare z : ℕ) (w v : Worker) (s s' : Shared B) (keeps : 
 
     keeps_none : KeepsSpare spare v s'
     keeps_none =
-        let same : live_count v.home.timers ≡ live_count w.home.timers = ap live_count still.0 in
         let zero_of = count_none (λ (c : ForwardedResult Reply). is_of_timer z c.sender.of) in
         let was = before ∙ ap one_if ends_before in
-        keeps_by [] still.1 leaves_none (omega (arith, same)) (λ c among. absurd (none_in c among)) (λ j differs. count_none (λ (c : ForwardedResult Reply). is_of_timer j c.sender.of)) (omega (arith, zero_of, was))
+        keeps_by [] still.1 leaves_none (omega (arith, ap live_count still.0)) (λ c among. absurd (none_in c among)) (λ j differs. count_none (λ (c : ForwardedResult Reply). is_of_timer j c.sender.of)) (omega (arith, zero_of, was))
 
     desk_none : desk_of v ≡ told_of_cancel z r.it.shown (desk_of w)
     desk_none =
@@ -316,18 +262,10 @@ module _ {B : Type 0} (spare z : ℕ) (w v : Worker) (s s' : Shared B) (keeps : 
   -- BOTH
 
   pub removed_kept : KeepsSpare spare v s'
-  removed_kept = by (value_at w.home.timers r.it.id.0) refl
-    where
-      by : (o : Option (Sleeping Reply)) → value_at w.home.timers r.it.id.0 ≡ o → KeepsSpare spare v s'
-      by None none = keeps_none none
-      by (Some bed) was = keeps_bed bed was
+  removed_kept = elim (value_at w.home.timers r.it.id.0) as (λ o. value_at w.home.timers r.it.id.0 ≡ o → KeepsSpare spare v s') [ None ↦ keeps_none | Some bed ↦ keeps_bed bed ] refl
 
   pub removed_desk : desk_of v ≡ told_of_cancel z r.it.shown (desk_of w)
-  removed_desk = by (value_at w.home.timers r.it.id.0) refl
-    where
-      by : (o : Option (Sleeping Reply)) → value_at w.home.timers r.it.id.0 ≡ o → desk_of v ≡ told_of_cancel z r.it.shown (desk_of w)
-      by None none = desk_none none
-      by (Some bed) was = desk_bed bed was
+  removed_desk = elim (value_at w.home.timers r.it.id.0) as (λ o. value_at w.home.timers r.it.id.0 ≡ o → desk_of v ≡ told_of_cancel z r.it.shown (desk_of w)) [ None ↦ desk_none | Some bed ↦ desk_bed bed ] refl
 
 pub removes_seen : (B : Type 0) → RemovesSeen B
 removes_seen B = λ z w v s s' idle keeps r mine. record { keeps = removed_kept 64 z w v s s' keeps r mine; desk = removed_desk 64 z w v s s' keeps r mine }

@@ -1,14 +1,5 @@
 -- The sleeper that fires first is the one that the machine fires; and what stands on the desk then.
-use Rattle.std.{proofs.{Common.{◌≡◌, ℕ, ◌^◌, ◌<◌, ◌≤◌, ◌&&◌, ◌||◌, Bool, true, false, not, List, [], ◌∷◌, zero, suc, length, map, nat_le, Option, Some, None, IsSome, Ok, refl, sym, ap, subst, ◌∙◌, arith, slice_get, slice_index_or}, lemmas.{Bool.{false≢true}, List.{append-nil, map-append}}}, specs.{List.list_all, Option.option_map}}
-use Rattle.std.proofs.lemmas.Bool.{lt-leb}
-use Rattle.exec_base.{specs.{Slab.{IsPast, Slab, is_live, next_generation, removed, value_at}, declared.{slab.{Id.Id, Slot.{Slot, TheVariants.{Live, Retired, Vacant}}}}}, proofs.Slots.was_live}
-use Rattle.exec_time.specs.{Notes.Adds, Sleepers.{IsFirst, completions_of, wakes_of}, declared.{timers.{Observer.Observer as Watching, Sleeper.Sleeper as Sleeping}}}
-use Rattle.exec_waiters.specs.declared.deferred.Deferred.{Deferred}
-use Rattle.exec_driver.specs.Driving.{Driving}
-use Rattle.exec_machine.specs.{Deadlines.is_none_earlier, Tests.is_asleep, World.{Common, Own, no_sleeper}}
-use Rattle.exec_moves.specs.{Serve.is_to_fire, Slots.{Slots, vacated}, State.Desk, Told.{told_of_fire}}
-use Rattle.exec_parts.{specs.{declared.parts.{mail.Reply.Reply, names.Names.Names, record.Record.Record, sleeping.SleeperRecord.SleeperRecord}, Records.number_in, View.{completions_in, slots_seen}}, proofs.Facts.same_Some}
-use Rattle.exec_invariants.{specs.{Due.AreAsleep, Rooted.Watches, Names.IsNamed}, proofs.{Fired.{all_by, le-leb}, Firing.slept_there, FiringSlots.{OneBed, bed_vacated, value_of_slot}, Seen.sleeper_at, Unclosed.unclosed}}
+use Rattle.exec_invariants.{proofs.{Names.{◌≡◌, ℕ, ◌^◌, ◌<◌, ◌≤◌, ◌&&◌, ◌||◌, Bool, true, false, not, List, [], ◌∷◌, zero, suc, length, map, nat_le, Option, Some, None, IsSome, Ok, refl, sym, ap, subst, ◌∙◌, arith, slice_get, slice_index_or, false≢true, append-nil, map-append, list_all, option_map, lt-leb, IsPast, Slab, is_live, next_generation, removed, value_at, Id, Slot, Live, Retired, Vacant, was_live, Adds, IsFirst, completions_of, wakes_of, Watching, Sleeping, Deferred, Driving, is_none_earlier, is_asleep, Common, Own, no_sleeper, is_to_fire, Slots, vacated, Desk, told_of_fire, Reply, Names, Record, SleeperRecord, number_in, completions_in, slots_seen, same_Some, slice_get-map}, Fired.{all_by, le-leb}, Firing.slept_there, FiringSlots.{OneBed, bed_vacated, value_of_slot}, Seen.sleeper_at, Unclosed.unclosed}, specs.{Due.AreAsleep, Rooted.Watches, Names.IsNamed}}
 
 -- NAMES
 
@@ -54,9 +45,7 @@ module _ (i : ℕ) (closing : Bool) (opens : closing ≡ false) (n : Names) (d :
   none_before : (j : ℕ) (y : SleeperRecord) → slice_get ss j ≡ Some y → is_asleep i y.shown ≡ true → z.shown.until ≤ y.shown.until
   none_before j y at sleeps =
       let by : (o : Option (Sleeping Reply)) → value_at zs y.id.0 ≡ o → IsSome o → z.shown.until ≤ y.shown.until = grind arith in
-      let kept = unclosed i n zs ss asleep opens j y at sleeps in
-      let live = asleep.there j y at sleeps kept in
-      by (value_at zs y.id.0) refl live
+      by (value_at zs y.id.0) refl (asleep.there j y at sleeps (unclosed i n zs ss asleep opens j y at sleeps))
 
   pub earliest : is_none_earlier i z.shown.until (map (λ y. y.shown) ss) ≡ true
   earliest = grind (arith, all_by, until, slept_there, le-leb, none_before)
@@ -68,24 +57,15 @@ module _ (i : ℕ) (closing : Bool) (opens : closing ≡ false) (n : Names) (d :
       let a = bed_named i n d zs rs ss named j x at alive in
       let y = a.4 in
       let m = slice_index_or n.timers.items j 0 in
-      let number : number_in n.timers.items a.0 ≡ m = ap (λ k. slice_index_or n.timers.items k 0) a.3 in
-      let alike = asleep.alike a.0 a.1 y a.2 (ap (slice_get ss) number ∙ a.5) in
       let later : z.shown.until < y.shown.until =
-      let least = first.least a.0 a.1 a.2 in
-      let mine = until in
-      let its = alike.until in
+      let its = (asleep.alike a.0 a.1 y a.2 (ap (slice_get ss) (ap (λ k. slice_index_or n.timers.items k 0) a.3) ∙ a.5)).until in
       let unlike : (deadline ≡ a.1.deadline) → ⊥ = λ same. let tie = first.ties a.0 a.1 a.2 same in let index = a.3 in omega (arith, tie, index, less) in
-      apart_less deadline a.1.deadline z.shown.until y.shown.until least mine its unlike in
+      apart_less deadline a.1.deadline z.shown.until y.shown.until (first.least a.0 a.1 a.2) until its unlike in
       let fails : is_none_earlier i y.shown.until (map (λ v. v.shown) ss) ≡ false =
-      some_fails (λ v. not (is_asleep i v) || nat_le y.shown.until v.until) (map (λ v. v.shown) ss) (number_in n.timers.items id) z.shown (shown_at ss (number_in n.timers.items id) z there)
+      some_fails (λ v. not (is_asleep i v) || nat_le y.shown.until v.until) (map (λ v. v.shown) ss) (number_in n.timers.items id) z.shown (slice_get-map (λ (v : SleeperRecord). v.shown) ss (number_in n.timers.items id) ∙ ap (option_map (λ (v : SleeperRecord). v.shown)) there)
       (ap (λ b. not b || nat_le y.shown.until z.shown.until) (asleep.alike id it z was there).asleep ∙ lt-leb y.shown.until z.shown.until later) in
       ap (λ v. is_asleep i v && nat_le v.until me.sampled && is_none_earlier i v.until s.sleepers) (ap (λ xs. slice_index_or xs m no_sleeper) shown ∙ sleeper_at ss m y a.5)
       ∙ ap (λ b. is_asleep i y.shown && nat_le y.shown.until me.sampled && b) (ap (is_none_earlier i y.shown.until) shown ∙ fails) ∙ not_first (is_asleep i y.shown) (nat_le y.shown.until me.sampled)
-    where
-      shown_at : (xs : List SleeperRecord) (k : ℕ) (v : SleeperRecord) → slice_get xs k ≡ Some v → slice_get (map (λ v. v.shown) xs) k ≡ Some v.shown
-      shown_at [] k v at = absurd (let none : None ≡ Some v = at in cc)
-      shown_at (u ∷ xs) zero v at = ap (λ (w : SleeperRecord). Some w.shown) (same_Some u v at)
-      shown_at (u ∷ xs) (suc k) v at = shown_at xs k v at
 
   -- and it is
   pub is_first : (me : Own) (s : Common) → s.sleepers ≡ map (λ y. y.shown) ss → deadline ≤ me.sampled → is_to_fire i me s (number_in n.timers.items id) ≡ true

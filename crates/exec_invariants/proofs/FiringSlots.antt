@@ -1,9 +1,5 @@
 -- The slots of sleepers as they are seen, where one leaves its slot; and which stands first that passes a test.
-use Rattle.std.proofs.{Common.{◌≡◌, ◌≢◌, ℕ, zero, suc, ◌+◌, ◌^◌, ◌<◌, Bool, true, false, List, [], ◌∷◌, nat_lt, set, slice_get, slice_index_or, slice_set, Some, None, if◌then◌else◌, refl, sym, ap, ◌∙◌, arith}, lemmas.{Bool.{eq-eqb, Decides.nat_tests}, Option.get_or_from_slice_get}}
-use Rattle.exec_base.{specs.{Slab.{Slab, freed, is_live, removed, value_at, value_in}, declared.slab.{Id.Id, Slot.{Slot, TheVariants.{Live, Vacant, Retired}}}}, proofs.Slots.{IsLiveAt-from_value, live_within}}
-use Rattle.exec_moves.specs.Slots.{first_in, is_in_slots, slot_of, vacated}
-use Rattle.exec_parts.{specs.{Records.number_in, View.{slots_from, slots_seen}}, proofs.Facts.{not_same, same_Some}}
-use Rattle.exec_invariants.proofs.SparedRecord.{there_within}
+use Rattle.exec_invariants.{proofs.{Names.{◌≡◌, ◌≢◌, ℕ, zero, suc, ◌+◌, ◌^◌, ◌<◌, Bool, true, false, List, [], ◌∷◌, nat_lt, set, slice_get, slice_index_or, slice_set, Some, None, if◌then◌else◌, refl, sym, ap, ◌∙◌, arith, eq-eqb, nat_tests, get_or_from_slice_get, Slab, freed, is_live, removed, value_at, value_in, Id, Slot, Live, Vacant, Retired, IsLiveAt-from_value, live_within, first_in, is_in_slots, slot_of, vacated, number_in, slots_from, slots_seen, not_same, same_Some, ◌≤◌, Contains, ◌++◌, count_by, length, IsSome, subst, inl, inr, false≢true, length-set, Contains-append_cases, IsPast, ForwardedResult, Sleeping, Deferred, Answer, Driving, is_asleep, Heard, Reply, Names, Record, SleeperRecord, by_number, set_elsewhere, set_there}, SparedRecord.there_within, FiringNames.naps_set, ServedEnds.count_both}, specs.{Due.AreAsleep, Places.one_if, Rooted.{IsCompletion, IsRooted, SleeperPays, completions_of as sent_of, ends_elsewhere, goes_elsewhere, is_of_timer, results_of, Watches, IsResult}, Names.IsNamed}}
 
 pub number_there : (numbers : List ℕ) (id : Id) → slice_index_or numbers (0 + id.index) 0 ≡ number_in numbers id
 number_there numbers id = ap (λ m. slice_index_or numbers m 0) (let e : 0 + id.index ≡ id.index = omega arith in e)
@@ -17,8 +13,7 @@ module _ {T : Type 0} where
   alive_at s id e at =
       let live = IsLiveAt-from_value s.slots id.index id.generation s.first (rw at refl) in
       let it = there_within s.slots id.index (live_within s.slots id.index id.generation live.value live.is) in
-      let is : it.0 ≡ Live id.generation live.value = sym (get_or_from_slice_get s.slots id.index it.0 Retired it.1) ∙ live.is in
-      let found : slice_get s.slots id.index ≡ Some (Live id.generation live.value) = it.1 ∙ ap (λ x. Some x) is in
+      let found : slice_get s.slots id.index ≡ Some (Live id.generation live.value) = it.1 ∙ ap (λ x. Some x) (sym (get_or_from_slice_get s.slots id.index it.0 Retired it.1) ∙ live.is) in
       let value : value_at s id ≡ Some live.value =
       ap (λ x. value_in x id.generation) (get_or_from_slice_get s.slots id.index (Live id.generation live.value) (Vacant s.first) found) ∙ ap (λ b. if b then Some live.value else None) (eq-eqb id.generation id.generation refl) in
       found ∙ ap (λ v. Some (Live id.generation v)) (same_Some live.value e (sym value ∙ at))
@@ -42,22 +37,25 @@ module _ {T : Type 0} where
   abbrev IsFirst : ℕ → ℕ → List ℕ → List (Slot T) → ℕ → Type 0
   IsFirst n k numbers slots i = (j : ℕ) (x : Slot T) → j < i → slice_get slots j ≡ Some x → is_live x ≡ true → slice_index_or numbers (k + j) 0 ≢ n
 
+  -- the first has another number, and so has each
+  slot_other : (n k : ℕ) (numbers : List ℕ) (x : Slot T) (slots : List (Slot T)) → (is_live x ≡ true → slice_index_or numbers (k + 0) 0 ≢ n) → slot_of n k (slots_from k numbers (x ∷ slots)) ≡ slot_of n (suc k) (slots_from (suc k) numbers slots)
+  slot_other = grind (arith, not_same)
+
+  pub slot_none : (n k : ℕ) (numbers : List ℕ) (slots : List (Slot T)) → ((j : ℕ) (x : Slot T) → slice_get slots j ≡ Some x → is_live x ≡ true → slice_index_or numbers (k + j) 0 ≢ n) → slot_of n k (slots_from k numbers slots) ≡ None
+  slot_none n k numbers [] others = refl
+  slot_none n k numbers (x ∷ slots) others =
+      slot_other n k numbers x slots (λ alive. others 0 x refl alive)
+      ∙ slot_none n (suc k) numbers slots (λ j y at alive same. others (suc j) y at alive (ap (λ m. slice_index_or numbers m 0) (let e : k + suc j ≡ suc k + j = omega arith in e) ∙ same))
+
   slot_found : (n k : ℕ) (numbers : List ℕ) (slots : List (Slot T)) (i : ℕ) (o : Slot T) → slice_get slots i ≡ Some o → is_live o ≡ true → slice_index_or numbers (k + i) 0 ≡ n → IsFirst n k numbers slots i
       → slot_of n k (slots_from k numbers slots) ≡ Some (k + i)
   slot_found n k numbers [] i o there live is first = absurd (let no : None ≡ Some o = there in cc)
   slot_found n k numbers (x ∷ slots) zero o there live is first = grind (arith, same_Some, eq-eqb)
   slot_found n k numbers (x ∷ slots) (suc i) o there live is first =
       let later : IsFirst n (suc k) numbers slots i = λ j y less at alive same. first (suc j) y (omega (arith, less)) at alive (ap (λ m. slice_index_or numbers m 0) (let e : k + suc j ≡ suc k + j = omega arith in e) ∙ same) in
-      by (is_live x) refl
+      slot_other n k numbers x slots (λ alive. first 0 x (omega arith) refl alive)
       ∙ slot_found n (suc k) numbers slots i o there live (ap (λ m. slice_index_or numbers m 0) (let e : suc k + i ≡ k + suc i = omega arith in e) ∙ is) later
       ∙ ap (λ m. Some m) (let e : suc k + i ≡ k + suc i = omega arith in e)
-    where
-      by : (b : Bool) → is_live x ≡ b → slot_of n k (slots_from k numbers (x ∷ slots)) ≡ slot_of n (suc k) (slots_from (suc k) numbers slots)
-      by true alive =
-          let other : slice_index_or numbers k 0 ≢ n = λ same. first 0 x (omega arith) refl alive (ap (λ m. slice_index_or numbers m 0) (let e : k + 0 ≡ k = omega arith in e) ∙ same) in
-          ap (λ b. slot_of n k ((if b then Some (slice_index_or numbers k 0) else None) ∷ slots_from (suc k) numbers slots)) alive
-          ∙ ap (λ b. if b then Some k else slot_of n (suc k) (slots_from (suc k) numbers slots)) (not_same n (slice_index_or numbers k 0) (λ same. other (sym same)))
-      by false dead = ap (λ b. slot_of n k ((if b then Some (slice_index_or numbers k 0) else None) ∷ slots_from (suc k) numbers slots)) dead
 
   -- each number stands in one slot
   pub record OneBed (numbers : List ℕ) (s : Slab T) (id : Id) : Type 0 where
@@ -107,3 +105,116 @@ module _ {T : Type 0} where
   pub first_is : (test : ℕ → Bool) (numbers : List ℕ) (s : Slab T) (id : Id) (e : T) → value_at s id ≡ Some e → test (number_in numbers id) ≡ true
       → ((j : ℕ) (x : Slot T) → j < id.index → slice_get s.slots j ≡ Some x → is_live x ≡ true → test (slice_index_or numbers j 0) ≡ false) → first_in test (slots_seen numbers s).held ≡ Some (number_in numbers id)
   first_is = grind (arith, first_from, alive_at, number_there)
+
+-- it doesn't sleep then
+pub record IsOverAs (i : ℕ) (z z' : SleeperRecord) : Type 0 where
+  pub id : z'.id ≡ z.id
+  pub worker : z'.shown.worker ≡ z.shown.worker
+  pub task : z'.shown.task ≡ z.shown.task
+  pub closed : z'.closed ≡ z.closed
+  pub paid : z'.shown.wakes_paid ≡ z.shown.wakes_paid
+  pub awake : is_asleep i z'.shown ≡ false
+  pub pays : SleeperPays z → SleeperPays z'
+
+-- THE SLAB: what had a slot, but for that one, has it still
+pub record Leaves (n : Names) (k : ℕ) (zs zs' : Slab (Sleeping Reply)) : Type 0 where
+  pub others : (other : Id) → IsSome (value_at zs' other) → (value_at zs' other ≡ value_at zs other) × (k ≡ number_in n.timers.items other → ⊥)
+  pub stays : (other : Id) → IsSome (value_at zs other) → (k ≡ number_in n.timers.items other → ⊥) → value_at zs' other ≡ value_at zs other
+  pub many : length zs'.slots ≡ length zs.slots
+  pub back : (other : Id) → IsPast zs' other → IsPast zs other
+  pub on : (other : Id) → IsPast zs other → IsPast zs' other
+
+module _ (i : ℕ) (n : Names) (d : Driving Reply Reply) (zs zs' : Slab (Sleeping Reply)) (rs : List Record) (ss : List SleeperRecord) (k : ℕ) (z z' : SleeperRecord) (there : slice_get ss k ≡ Some z) (over : IsOverAs i z z') (leaves : Leaves n k zs zs') where
+  now_there : slice_get (slice_set ss k z') k ≡ Some z'
+  now_there = set_there ss k z' z there
+
+  -- what stands there then is it, or stood there
+  by_sleeper : {C : Type 0} (j : ℕ) (x : SleeperRecord) → slice_get (slice_set ss k z') j ≡ Some x → (j ≡ k → z' ≡ x → C) → ((k ≡ j → ⊥) → slice_get ss j ≡ Some x → C) → C
+  by_sleeper = grind (arith, by_number, set_elsewhere, same_Some, now_there)
+
+  before : (other : Id) → IsSome (value_at zs' other) → IsSome (value_at zs other)
+  before other live = subst IsSome (leaves.others other live).0 live
+
+  elsewhere : (other : Id) → IsSome (value_at zs' other) → slice_get (slice_set ss k z') (number_in n.timers.items other) ≡ slice_get ss (number_in n.timers.items other)
+  elsewhere other live = set_elsewhere ss k (number_in n.timers.items other) z' (λ e. (leaves.others other live).1 (sym e))
+
+  pub named_over : IsNamed i n d zs rs ss → IsNamed i n d zs' rs (slice_set ss k z')
+  named_over = grind (arith, before, elsewhere)
+
+  pub asleep_over : {closing : Bool} → AreAsleep closing i n zs ss → AreAsleep closing i n zs' (slice_set ss k z')
+  asleep_over asleep =
+      record {
+        alike = λ other x r at found.
+            let live : IsSome (value_at zs' other) = rw at refl in
+            asleep.alike other x r (sym (leaves.others other live).0 ∙ at) (sym (elsewhere other live) ∙ found);
+        there = λ j r found sleeps unclosed.
+            by_sleeper j r found
+            (λ e is. absurd (false≢true (sym over.awake ∙ ap (λ (y : SleeperRecord). is_asleep i y.shown) is ∙ sleeps)))
+            (λ unlike old.
+            let live = asleep.there j r old sleeps unclosed in
+            subst IsSome (sym (leaves.stays r.id.0 live (λ e. unlike (e ∙ asleep.named j r old sleeps unclosed)))) live);
+        named = λ j r found sleeps unclosed.
+            by_sleeper j r found
+            (λ e is. absurd (false≢true (sym over.awake ∙ ap (λ (y : SleeperRecord). is_asleep i y.shown) is ∙ sleeps)))
+            (λ unlike old. asleep.named j r old sleeps unclosed);
+        lets_go = λ j r found mine closed.
+            by_sleeper j r found
+            (λ e is. asleep.lets_go k z there (sym over.worker ∙ ap (λ (y : SleeperRecord). y.shown.worker) is ∙ mine) (sym over.closed ∙ ap (λ (y : SleeperRecord). y.closed) is ∙ closed))
+            (λ unlike old. asleep.lets_go j r old mine closed);
+        counted = λ other past. subst (λ m. other.generation < m) (sym (length-set ss k z')) (asleep.counted other (leaves.back other past));
+        names = naps_set i zs zs' ss k z z' there (ap (λ t. t.0) over.id) over.worker leaves.on asleep.names;
+      }
+
+  -- WHAT IS SENT: these more
+  module _ (left left' : Deferred Reply Reply) (cs : List (ForwardedResult Reply)) (rooted : IsRooted i n d zs left rs ss) (same : left' ≡ record left { notes = left'.notes }) (completions : left'.notes.completions.items ≡ left.notes.completions.items ++ cs) (mine : z.shown.worker ≡ i)
+      (few : (c : ForwardedResult Reply) → Contains cs c → (c.sender ≡ record { task = record { 0 = z.shown.task }; of = Heard.Timer k }) × (z.shown.wakes_paid ≤ 1)) (none : (j : ℕ) → (k ≡ j → ⊥) → count_by (λ (c : ForwardedResult Reply). is_of_timer j c.sender.of) cs ≡ 0)
+      (here : (sent_of k left + count_by (λ (c : ForwardedResult Reply). is_of_timer k c.sender.of) cs) + one_if z'.sent ≡ one_if (ends_elsewhere z')) where
+    counted : (j : ℕ) → sent_of j left' ≡ sent_of j left + count_by (λ (c : ForwardedResult Reply). is_of_timer j c.sender.of) cs
+    counted j = ap (count_by (λ (c : ForwardedResult Reply). is_of_timer j c.sender.of)) completions ∙ count_both (λ (c : ForwardedResult Reply). is_of_timer j c.sender.of) left.notes.completions.items cs
+
+    end_old : (c : ForwardedResult Reply) → IsCompletion i c ss → IsCompletion i c (slice_set ss k z')
+    end_old c old =
+        by_number old.n k
+        (λ differs. record { n = old.n; z = old.z; there = set_elsewhere ss k old.n z' differs ∙ old.there; worker = old.worker; reply = old.reply; paid = old.paid })
+        (λ e.
+        let is : old.z ≡ z = same_Some old.z z (sym old.there ∙ ap (slice_get ss) e ∙ there) in
+        record {
+          n = old.n;
+          z = z';
+          there = ap (slice_get (slice_set ss k z')) e ∙ now_there;
+          worker = over.worker ∙ mine;
+          reply = old.reply ∙ ap (λ (y : SleeperRecord). record { task = record { 0 = y.shown.task }; of = Heard.Timer old.n }) is ∙ ap (λ t. record { task = record { 0 = t }; of = Heard.Timer old.n }) (sym over.task);
+          paid = subst (λ m. m ≤ 1) (ap (λ (y : SleeperRecord). y.shown.wakes_paid) is ∙ sym over.paid) old.paid;
+        })
+
+    end_new : (c : ForwardedResult Reply) → Contains cs c → IsCompletion i c (slice_set ss k z')
+    end_new c among =
+        let new = few c among in
+        record { n = k; z = z'; there = now_there; worker = over.worker ∙ mine; reply = new.0 ∙ ap (λ t. record { task = record { 0 = t }; of = Heard.Timer k }) (sym over.task); paid = subst (λ m. m ≤ 1) (sym over.paid) new.1 }
+
+    sent_then : (j : ℕ) (x : SleeperRecord) → slice_get (slice_set ss k z') j ≡ Some x → x.shown.worker ≡ i → sent_of j left' + one_if x.sent ≡ one_if (ends_elsewhere x)
+    sent_then j x at of_i =
+        by_sleeper j x at
+        (λ e is.
+        ap (λ m. sent_of m left' + one_if x.sent) e ∙ ap (λ (y : SleeperRecord). sent_of k left' + one_if y.sent) (sym is) ∙ ap (λ m. m + one_if z'.sent) (counted k) ∙ here ∙ ap (λ (y : SleeperRecord). one_if (ends_elsewhere y)) is)
+        (λ differs found.
+        omega (arith, counted j, none j differs, rooted.sleeper_sent j x found of_i))
+
+    pub rooted_over : IsRooted i n d zs' left' rs (slice_set ss k z')
+    rooted_over =
+        let watches : (id : Id) (it : Sleeping Reply) (z : SleeperRecord) → value_at zs' id ≡ Some it → slice_get (slice_set ss k z') (number_in n.timers.items id) ≡ Some z → Watches (number_in n.timers.items id) it.observer z = λ other x y at found.
+        let live : IsSome (value_at zs' other) = rw at refl in
+        rooted.watches other x y (sym (leaves.others other live).0 ∙ at) (sym (elsewhere other live) ∙ found) in
+        let sleeper_pays : (k0 : ℕ) (z : SleeperRecord) → slice_get (slice_set ss k z') k0 ≡ Some z → z.shown.worker ≡ i → SleeperPays z = λ j x at of_i.
+        by_sleeper j x at
+        (λ e is. subst SleeperPays is (over.pays (rooted.sleeper_pays k z there mine)))
+        (λ differs found. rooted.sleeper_pays j x found of_i) in
+        let results_so : (a : Answer Reply) → Contains left'.results.items a → IsResult i a rs = λ a among. rooted.results a (subst (λ xs. Contains xs a) (ap (λ v. v.items) (ap (λ (x : Deferred Reply Reply). x.results) same)) among) in
+        let completions_so : (c : ForwardedResult Reply) → Contains left'.notes.completions.items c → IsCompletion i c (slice_set ss k z') = λ c among.
+        elim (Contains-append_cases left.notes.completions.items cs c (subst (λ xs. Contains xs c) completions among)) [
+          | inl old ↦ end_old c (rooted.completions c old)
+          | inr new ↦ end_new c new
+        ] in
+        let sent : (k0 : ℕ) (r : Record) → slice_get rs k0 ≡ Some r → r.shown.worker ≡ i → results_of k0 left' + one_if r.sent ≡ one_if (goes_elsewhere r) =
+        λ j r at of_i. subst (λ (x : Deferred Reply Reply). results_of j x + one_if r.sent ≡ one_if (goes_elsewhere r)) (sym same) (rooted.sent j r at of_i) in
+        assumption (watches, sleeper_pays, results_so, completions_so, sent, sent_then, rooted)

@@ -1,11 +1,5 @@
 -- The act by which a task wakes its worker's root, or the root itself: the root is flagged where it was idle.
-use Rattle.std.proofs.{Common.{◌≡◌, ℕ, ◌||◌, Bool, false, List, length, Option, Some, None, refl, sym, ap, subst, ◌∙◌, is_some, slice_get, slice_set, if◌then◌else◌}, lemmas.Bool.{false≢true}}
-use Rattle.std.proofs.Common.{arith}
-use Rattle.exec_task.specs.{Phases.{is_idle as is_cell_idle, runnable_of, woken as cell_woken}, declared.{body.{Said.Said}, runnable.Runnable.Runnable, task.Phase.Phase}}
-use Rattle.exec_machine.specs.{Progress.Plan}
-use Rattle.exec_moves.specs.{declared.place.{InPoll.InPoll, Place.Place}}
-use Rattle.exec_parts.{specs.{declared.parts.{shared.Shared.Shared, task_slot.TaskSlot.TaskSlot, worker.Worker.Worker}, Phased.is_complete, Pooled.woken_slot, Spots.Spot, View.{Views}}, proofs.Facts.{same_Some, set_elsewhere, set_there}}
-use Rattle.exec_invariants.{specs.{Places.{claims_at, clears_at, has_count_at, is_published_at, polled_in}, Sound.{IsRunnable, SoundAt, Stands, is_told, one_of}, Works.Beside}, proofs.{Cells.{complete_woken, polled_woken}, Polling.on_in_poll, Slots.{Balances, spares_slot, whole_slot}, SlotTasks.{Keeps, Tasked, homes_set, none_in, resting_set, sound_tasked}, Stirs.IsWake}}
+use Rattle.exec_invariants.{proofs.{Names.{◌≡◌, ℕ, ◌||◌, Bool, false, List, length, Option, Some, None, refl, sym, ap, subst, ◌∙◌, is_some, slice_get, slice_set, if◌then◌else◌, false≢true, arith, is_cell_idle, runnable_of, cell_woken, Said, Runnable, Phase, Plan, InPoll, Place, Shared, TaskSlot, Worker, is_complete, woken_slot, Spot, Views, same_Some, set_elsewhere, set_there}, Cells.{complete_woken, polled_woken}, Polling.on_in_poll, Slots.{Balances, spares_slot, whole_slot}, SlotTasks.{Keeps, Tasked, homes_set, none_in, resting_set, sound_tasked}, Stirs.IsWake}, specs.{Places.{claims_at, clears_at, has_count_at, is_published_at, polled_in}, Sound.{IsRunnable, SoundAt, Stands, is_told, one_of}, Works.Beside}}
 
 -- whether the flag is set then
 pub flag_set : (b : Bool) (r : Runnable) (f : Option Runnable) → is_some (if b then Some r else f) ≡ (is_some f || b)

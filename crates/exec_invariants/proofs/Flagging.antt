@@ -1,10 +1,5 @@
 -- What the taking of the root flag is to the machine.
-use Rattle.std.proofs.{Common.{◌≡◌, ◌≢◌, ℕ, ◌+◌, ◌==◌, inl, false, [], ◌∷◌, ◌++◌, Option, Some, None, refl, sym, ap, subst, ◌∙◌, arith, length, option_to_list, slice_get, ◌<◌, ◌≤◌}, lemmas.{Bool.{eq-eqb, false≢true}, Option.slice_get_within}}
-use Rattle.exec_task.specs.declared.{body.Said.Said, runnable.Runnable.Runnable}
-use Rattle.exec_machine.specs.{declared.event.Event.{Event, TheVariants.Turn}}
-use Rattle.exec_moves.specs.{declared.{handing.AfterCallbacks.AfterCallbacks, place.{InCallbacks.InCallbacks, InPoll.InPoll, Place.Place}}}
-use Rattle.exec_parts.{specs.{declared.parts.{seat.Seat.Seat as Chair, shared.Shared.Shared, task_slot.TaskSlot.TaskSlot, worker.Worker.Worker}, Phased.{closes_at, closing_in}, Pooled.{polling, with_flag}, Spots.Spot}, proofs.Facts.not_same}
-use Rattle.exec_invariants.{specs.{HoldPlaces.is_bare_at, Places.is_armed_at, Sound.{Aims, HasBatch, HasQueue, HasRunnable, IsRunnable, SoundAt, one_of}, Whole.{HasOne, may_let_go, runnables_in, stock}, Works.Steps}, proofs.{PopLeads.begins_poll, Queued.hands_of, Queueing.{Around, Reaches, poses, rehanded, whole_handed}, Thieves.in_both}}
+use Rattle.exec_invariants.{proofs.{Names.{◌≡◌, ◌≢◌, ℕ, ◌+◌, ◌==◌, inl, false, [], ◌∷◌, ◌++◌, Option, Some, None, refl, sym, ap, subst, ◌∙◌, arith, length, option_to_list, slice_get, ◌≤◌, eq-eqb, false≢true, slice_get_within, Said, Runnable, Event, Turn, AfterCallbacks, InCallbacks, InPoll, Place, Chair, Shared, TaskSlot, Worker, closes_at, closing_in, polling, with_flag, Spot, not_same}, PopLeads.begins_poll, Queued.hands_of, Queueing.{Around, Reaches, poses, rehanded, whole_handed}, Thieves.in_both}, specs.{HoldPlaces.is_bare_at, Places.is_armed_at, Sound.{Aims, HasBatch, HasQueue, HasRunnable, IsRunnable, SoundAt, one_of}, Whole.{HasOne, may_let_go, runnables_in, stock}, Works.Steps}}
 
 -- a runnable of another task isn't one of this
 pub none_of : (t : ℕ) (r : Runnable) → (r.task.0 == t) ≡ false → runnables_in t (r ∷ []) ≡ 0
@@ -40,7 +35,6 @@ module _ {B L : Type 0} (left : B → L) (spot : L → Option Said → Spot) (w 
       by (Some r) flag goes =
           let w1 : Worker = record (polling r w) { root_ready = None } in
           let root : r.task.0 ≡ w.root = flagged w s r sound flag in
-          let next : Place = Place.Poll r.task.0 InPoll.BeginPoll in
           let has : HasRunnable w.index w.root None (Some r) s.tasks.items = record {
             root = sound.runnable.root;
             there = sound.runnable.there;
@@ -51,23 +45,18 @@ module _ {B L : Type 0} (left : B → L) (spot : L → Option Said → Spot) (w 
           } in
           let to : Reaches Place.TakeRootFlag w1.place w w1 s s =
           begins_poll Place.TakeRootFlag r w w1 s s sound refl refl refl refl refl refl (rw (eq-eqb r.task.0 w.root root) has) (inl (ap (λ n. Some n) root)) (λ other. absurd (other root)) sound.told
-          (around next refl tt sound.queue sound.batch refl refl refl) in
+          (around (Place.Poll r.task.0 InPoll.BeginPoll) refl tt sound.queue sound.batch refl refl refl) in
           -- an ordinary task has as many as before
           let beside : (t : ℕ) → r.task.0 ≢ t → runnables_in t (hands_of w1) ≡ runnables_in t (hands_of w) =
           λ t apart.
-          let had : runnables_in t (hands_of w) ≡ runnables_in t w.loot.values = ap (λ o. runnables_in t (option_to_list o ++ w.loot.values)) sound.hand in
-          let has_now : runnables_in t (hands_of w1) ≡ runnables_in t (r ∷ []) + runnables_in t w.loot.values = in_both t (r ∷ []) w.loot.values in
-          omega (arith, had, has_now, none_of t r (not_same r.task.0 t apart)) in
-          let inside : w.root < length s.tasks.items = slice_get_within s.tasks.items w.root sound.runnable.root sound.runnable.there in
+          omega (arith, ap (λ o. runnables_in t (option_to_list o ++ w.loot.values)) sound.hand, in_both t (r ∷ []) w.loot.values, none_of t r (not_same r.task.0 t apart)) in
           let most : (t others : ℕ) → length s.tasks.items ≤ t → (others + runnables_in t (hands_of w1)) + stock t s ≤ (others + runnables_in t (hands_of w)) + stock t s =
-          λ t others more. omega (arith, beside t (λ is. omega (arith, is, root, inside, more))) in
+          λ t others more. omega (arith, beside t (λ is. omega (arith, is, root, slice_get_within s.tasks.items w.root sound.runnable.root sound.runnable.there, more))) in
           let same : (t : ℕ) (slot : TaskSlot B) → slice_get s.tasks.items t ≡ Some slot → slot.home ≡ None → runnables_in t (hands_of w1) ≡ runnables_in t (hands_of w) =
           λ t slot there home.
           let apart : r.task.0 ≢ t = λ is.
-          let here : slice_get s.tasks.items w.root ≡ Some slot = subst (λ n. slice_get s.tasks.items n ≡ Some slot) (sym is ∙ root) there in
-          let it : slot ≡ sound.runnable.root = cc (here, sound.runnable.there) in
-          let no : None ≡ Some w.index = sym home ∙ ap (λ (x : TaskSlot B). x.home) it ∙ sound.runnable.home in
-          absurd (cc (no)) in
+          let it : slot ≡ sound.runnable.root = cc (subst (λ n. slice_get s.tasks.items n ≡ Some slot) (sym is ∙ root) there, sound.runnable.there) in
+          absurd (cc (sym home ∙ ap (λ (x : TaskSlot B). x.home) it ∙ sound.runnable.home)) in
           beside t apart in
           subst (λ v. Steps left spot w s e v s) (sym goes)
           (rehanded left spot Place.TakeRootFlag w w1 s s.global e sound turn (record { same = refl; read = sound.time.read; asleep = sound.time.asleep }) refl refl refl to

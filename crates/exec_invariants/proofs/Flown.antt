@@ -1,15 +1,5 @@
 -- What has landed, as a driver and the records of its requests change.
-use Rattle.std.{proofs.Common.{◌≡◌, ℕ, ◌≤◌, ◌==◌, Bool, true, false, List, [], ◌∷◌, map, Option, Some, refl, sym, ap, subst, ◌∙◌, arith, slice_get, slice_index_or}, specs.{VecDeque.deque_capacity, Vec.vec_capacity, Prelude.{◌+◌, length}}}
-use Rattle.exec_base.specs.declared.slab.Id.{Id}
-use Rattle.exec_outcomes.specs.{declared.outcome.OpResult.OpResult}
-use Rattle.exec_ring.specs.{Completions.result_in, declared.completion.Completion.Completion}
-use Rattle.exec_waiters.specs.{States.waiter_at, declared.{waiter.Waiter.Waiter, waiter_id.WaiterId.WaiterId}}
-use Rattle.exec_driver.specs.Driving.{Driving}
-use Rattle.exec_lists.specs.Lists.{is_among}
-use Rattle.exec_machine.specs.{declared.state.RequestPhase.TheVariants.Landed, Tests.is_resolved}
-use Rattle.exec_moves.specs.declared.place.InService.{InService}
-use Rattle.exec_parts.{specs.{declared.parts.{mail.Reply.Reply, names.Names.Names, record.Record.Record}, Records.number_in, Serving.changed_at, View.number_told}, proofs.Facts.same_number}
-use Rattle.exec_invariants.{specs.Flown.{IsPlain, HasLanded, AreLanded, HasFlown, operations}, proofs.Marking.{mark_if, marked, was_marked}}
+use Rattle.exec_invariants.{proofs.{Names.{◌≡◌, ℕ, ◌≤◌, ◌==◌, Bool, true, false, List, [], ◌∷◌, map, Option, Some, refl, sym, ap, subst, ◌∙◌, arith, slice_get, slice_index_or, deque_capacity, vec_capacity, ◌+◌, length, Id, OpResult, result_in, Completion, waiter_at, Waiter, WaiterId, Driving, is_among, Landed, is_resolved, InService, Reply, Names, Record, number_in, changed_at, number_told, same_number, RequestPhase}, Marking.{mark_if, marked, was_marked, mark_kept}}, specs.Flown.{IsPlain, HasLanded, AreLanded, HasFlown, operations}}
 
 -- A request that flies goes on flying: with its operation, by its number, and its record has come no further.
 pub record FliesOn (n n' : Names) (d d' : Driving Reply Reply) (rs rs' : List Record) (id : Id) (it : Waiter Reply Reply) (r : Record) : Type 0 where
@@ -29,8 +19,7 @@ module _ (n n' : Names) (d d' : Driving Reply Reply) (rs rs' : List Record) wher
 
   number_on : (c : Completion) → HasLanded n d rs c → AllFlyOn → number_told n'.requests.items c ≡ number_told n.requests.items c
   number_on c h keeps =
-      let on = keeps h.id h.it h.r (result_in c.result) h.live h.flies h.there h.landed in
-      subst (λ k. slice_index_or n'.requests.items k 0 ≡ slice_index_or n.requests.items k 0) h.index on.number
+      subst (λ k. slice_index_or n'.requests.items k 0 ≡ slice_index_or n.requests.items k 0) h.index (keeps h.id h.it h.r (result_in c.result) h.live h.flies h.there h.landed).number
 
   pub numbers_on : (cs : List Completion) → AreLanded n d rs cs → AllFlyOn → map (number_told n'.requests.items) cs ≡ map (number_told n.requests.items) cs
   numbers_on [] are keeps = refl
@@ -53,16 +42,13 @@ landed_as = grind (arith, landed_on)
 -- A mark of a record, as released, as one that has paid, or whose end was sent elsewhere.
 module _ (f : Record → Record) (marks : (r : Record) → f r ≡ record r { shown = record r.shown { wakes_paid = (f r).shown.wakes_paid; released = (f r).shown.released }; sent = (f r).sent }) where
   phase_kept : (b : Bool) (r : Record) → (mark_if f b r).shown.phase ≡ r.shown.phase
-  phase_kept true r = ap (λ y. y.shown.phase) (marks r)
-  phase_kept false r = refl
+  phase_kept = mark_kept RequestPhase (λ x. x.shown.phase) f (λ r. ap (λ y. y.shown.phase) (marks r))
 
   worker_kept : (b : Bool) (r : Record) → (mark_if f b r).shown.worker ≡ r.shown.worker
-  worker_kept true r = ap (λ y. y.shown.worker) (marks r)
-  worker_kept false r = refl
+  worker_kept = mark_kept ℕ (λ x. x.shown.worker) f (λ r. ap (λ y. y.shown.worker) (marks r))
 
   cancel_kept : (b : Bool) (r : Record) → (mark_if f b r).shown.cancel_staged ≡ r.shown.cancel_staged
-  cancel_kept true r = ap (λ y. y.shown.cancel_staged) (marks r)
-  cancel_kept false r = refl
+  cancel_kept = mark_kept Bool (λ x. x.shown.cancel_staged) f (λ r. ap (λ y. y.shown.cancel_staged) (marks r))
 
   plain_kept : (b : Bool) (r : Record) → IsPlain r.shown → IsPlain (mark_if f b r).shown
   plain_kept true r plain = subst (λ y. IsPlain y.shown) (sym (marks r)) (assumption plain)

@@ -1,8 +1,6 @@
 -- The records of what was staged, once the kernel took it in: for the machine all requests of the worker that are Staged
 -- fly.
-use Rattle.std.{proofs.{Common.{◌≡◌, ℕ, zero, suc, ◌<◌, ◌==◌, ◌&&◌, ◌||◌, Bool, true, false, List, [], ◌∷◌, ◌++◌, length, map, get_or, Option, Some, None, refl, sym, ap, subst, ◌∙◌, arith, slice_get, slice_set, if◌then◌else◌}, lemmas.{Bool.{false≢true, Decides.nat_tests}, List.length-set, Option.{slice_get-map, slice_get-get_or}}}, specs.Option.option_map}
-use Rattle.exec_machine.specs.{declared.state.{Request.Request, RequestPhase.RequestPhase}, Requests.flown, Tests.is_staged}
-use Rattle.exec_parts.{specs.{declared.parts.record.Record.Record, Serving.{AreKnown, changed_in, changed_at, flies, flown_in, is_one_of}}, proofs.Facts.same_number}
+use Rattle.exec_invariants.proofs.Names.{◌≡◌, ℕ, zero, suc, ◌<◌, ◌==◌, ◌&&◌, ◌||◌, Bool, true, false, List, [], ◌∷◌, ◌++◌, length, map, get_or, Option, Some, None, refl, sym, ap, subst, ◌∙◌, arith, slice_get, slice_set, if◌then◌else◌, false≢true, nat_tests, length-set, slice_get-map, slice_get-get_or, option_map, Request, RequestPhase, flown, is_staged, Record, AreKnown, changed_in, changed_at, flies, flown_in, is_one_of, same_number}
 
 -- LISTS
 
@@ -15,22 +13,13 @@ same_list (x ∷ xs) (y ∷ ys) same =
     let head : x ≡ y = cc in
     rw (head, same_list xs ys (λ k. same (suc k))) refl
 
-zero_apart : (k : ℕ) → (zero == suc k) ≡ false
-zero_apart k = grind (arith, nat_tests)
-
-apart_zero : (k : ℕ) → (suc k == zero) ≡ false
-apart_zero k = grind (arith, nat_tests)
-
-both_next : (q k : ℕ) → (suc q == suc k) ≡ (q == k)
-both_next q k = grind (arith, nat_tests)
-
 -- an element that was set, and any other
 pub get_set : {A : Type 0} (xs : List A) (q k : ℕ) (x y : A) → slice_get xs q ≡ Some y → slice_get (slice_set xs q x) k ≡ (if q == k then Some x else slice_get xs k)
 get_set [] q k x y there = absurd (cc)
 get_set (z ∷ xs) zero zero x y there = refl
-get_set (z ∷ xs) zero (suc k) x y there = subst (λ b. slice_get xs k ≡ (if b then Some x else slice_get xs k)) (sym (zero_apart k)) refl
-get_set (z ∷ xs) (suc q) zero x y there = subst (λ b. Some z ≡ (if b then Some x else Some z)) (sym (apart_zero q)) refl
-get_set (z ∷ xs) (suc q) (suc k) x y there = subst (λ b. slice_get (slice_set xs q x) k ≡ (if b then Some x else slice_get xs k)) (sym (both_next q k)) (get_set xs q k x y there)
+get_set (z ∷ xs) zero (suc k) x y there = grind (arith, nat_tests)
+get_set (z ∷ xs) (suc q) zero x y there = grind (arith, nat_tests)
+get_set (z ∷ xs) (suc q) (suc k) x y there = grind (arith, nat_tests, get_set xs q k x y there)
 
 -- of the records one becomes what a function makes of it
 pub get_changed : (rs : List Record) (q k : ℕ) (f : Record → Record) → slice_get (changed_at rs q f) k ≡ (if q == k then option_map f (slice_get rs k) else slice_get rs k)
@@ -56,18 +45,10 @@ flies_if true r = flies r
 flies_if false r = r
 
 pub worker_kept : (i : ℕ) (r : Request) → (flown i r).worker ≡ r.worker
-worker_kept i r = elim ((r.worker == i) && is_staged r.phase) as (λ b. (if b then (record r { phase = RequestPhase.Flying }) else r).worker ≡ r.worker) [ true ↦ refl | false ↦ refl ]
+worker_kept = grind arith
 
 flown_again : (i : ℕ) (r : Request) → flown i (flown i r) ≡ flown i r
-flown_again i r =
-    elim ((r.worker == i) && is_staged r.phase) as (λ b. ((r.worker == i) && is_staged r.phase) ≡ b → flown i (if b then (record r { phase = RequestPhase.Flying }) else r) ≡ (if b then (record r { phase = RequestPhase.Flying }) else r)) [
-      | true ↦ λ is. not_staged i (r.worker == i) r
-      | false ↦ λ is. rw is refl
-    ] refl
-  where
-    not_staged : (i : ℕ) (b : Bool) (r : Request) → (if b && false then (record r { phase = RequestPhase.Flying }) else (record r { phase = RequestPhase.Flying })) ≡ (record r { phase = RequestPhase.Flying })
-    not_staged i true r = refl
-    not_staged i false r = refl
+flown_again = grind arith
 
 flown_twice : (r : Request) → flown (flown r.worker r).worker (flown r.worker r) ≡ flown r.worker r
 flown_twice r = subst (λ j. flown j (flown r.worker r) ≡ flown r.worker r) (sym (worker_kept r.worker r)) (flown_again r.worker r)
@@ -133,5 +114,4 @@ pub one_flown : (ks before : List ℕ) (k : ℕ) (rs : List Record) (x : Record)
     → (flown_in ks (slice_set rs k (flies x)) ≡ flown_in before rs) × AreKnown ks (slice_set rs k (flies x)) × (k < length rs)
 one_flown ks before k rs x is found known =
     let all = known_of_all ks k rs (slice_set rs k (flies x)) (length-set rs k (flies x)) (subst (λ b. AreKnown b rs) is known) in
-    let there : slice_get rs k ≡ Some x = slice_get-get_or rs k x all.1 ∙ ap (λ y. Some y) (sym found) in
-    (ap (λ o. flown_in ks (changed_in rs k flies o)) (sym there) ∙ sym (last_flies ks k rs) ∙ ap (λ b. flown_in b rs) (sym is), all.0, all.1)
+    (ap (λ o. flown_in ks (changed_in rs k flies o)) (sym (slice_get-get_or rs k x all.1 ∙ ap (λ y. Some y) (sym found))) ∙ sym (last_flies ks k rs) ∙ ap (λ b. flown_in b rs) (sym is), all.0, all.1)

@@ -1,18 +1,5 @@
 -- A step of a poll: a durable request that was registered joins the line at the gate of its open.
-use Rattle.std.{proofs.{Common.{◌≡◌, ◌≢◌, ℕ, ◌==◌, ◌<◌, arith, ◌++◌, Bool, true, false, not, List, [], ◌∷◌, length, map, Option, Some, None, IfSome, refl, sym, ap, subst, ◌∙◌, slice_get, slice_set, if◌then◌else◌}, lemmas.{List.map-set, Option.{get_or_from_slice_get, slice_get-map}}}, specs.{Option.option_map, Prelude.{◌⊎◌, ◌+◌}}}
-use Rattle.exec_outcomes.specs.Accounts.{is_durable}
-use Rattle.exec_base.specs.declared.slab.Id.{Id}
-use Rattle.exec_task.specs.{TaskSet.Set, Phases.is_polled}
-use Rattle.exec_request.specs.Requests.{asked_of, cursor_of, target_of}
-use Rattle.exec_waiters.specs.{States.{gate_in, needs_permit, waiter_at}, declared.waiter.Waiter.Waiter}
-use Rattle.exec_driver.specs.Driving.{request_at}
-use Rattle.exec_opens.specs.{Opens.{OpenState, joined, open_named, with_named, with_open_in}, declared.opens.WaiterKey.WaiterKey}
-use Rattle.exec_task.specs.declared.body.Said.{Said}
-use Rattle.exec_machine.specs.{declared.{event.Event.{Event, TheVariants.Turn}}, Progress.Plan, Requests.open_joined_by, World.{no_open, open_of, request_of}}
-use Rattle.exec_moves.specs.{declared.place.{InPoll.InPoll, Place.Place}, State.gate_of}
-use Rattle.exec_parts.{specs.{declared.parts.{mail.Reply.Reply, record.Record.Record, seat.Seat.Seat as Chair, shared.Shared.Shared, task_slot.TaskSlot.TaskSlot, worker.Worker.Worker}, Records.number_in, Spots.Spot, View.{Views, common_of, driver_of, gate_seen, open_seen, things_with, visible, with_view}}, proofs.Facts.{and_parts, same_Some}}
-use Rattle.exec_invariants.specs.Admitting.{HasPlaceAt, joined_at}
-use Rattle.exec_invariants.{specs.{Drained.{Duties, IsPool, IsOver, in_set, IsHeldOnce, IsBefore}, Gates.{AreLinedUp, HaveGates, IsKnown, has_hint_at, key_for, may_ask_hint}, Places.{Drops, drops_at, polled_in}, Sound.{HasGuest, IsTied, SoundAt, Stands, served_in}, Spares.Spares, Whole.{HasWhole, IsWhole, Profile, duties_of, with_worker}, Works.{Beside, Steps, Suits, Works}}, proofs.{Aside.{spares_none}, GateLines.{MayJoin, gate_then, gates_joined, hints_joined, joined_in, lined_joined, open_then, place_made}, Gated.{durable_of_file, gate_there, stands_there, ungated_open}, Hearing.unheard, PoolKept.{chosen_other, chosen_own}, Recorded.request_seen, Slots.gates_free, SparedRecord.there_within, Turning.view_found}}
+use Rattle.exec_invariants.{proofs.{Names.{◌≡◌, ◌≢◌, ℕ, ◌==◌, ◌<◌, arith, ◌++◌, Bool, true, false, not, List, [], ◌∷◌, map, Option, Some, None, IfSome, refl, sym, ap, subst, ◌∙◌, slice_get, slice_set, if◌then◌else◌, map-set, get_or_from_slice_get, slice_get-map, option_map, ◌⊎◌, ◌+◌, is_durable, Id, Set, is_polled, asked_of, cursor_of, target_of, gate_in, waiter_at, Waiter, request_at, OpenState, joined, open_named, with_named, with_open_in, WaiterKey, Said, Event, Turn, Plan, open_joined_by, no_open, open_of, request_of, InPoll, Place, gate_at as gate_of, Reply, Record, Chair, Shared, TaskSlot, Worker, number_in, Spot, Views, common_of, driver_of, gate_seen, open_seen, things_with, visible, with_view, and_parts, same_Some}, Aside.spares_none, GateLines.{MayJoin, gate_then, gates_joined, hints_joined, joined_in, lined_joined, open_then, place_made}, Gated.{durable_of_file, gate_there, stands_there, ungated_open}, Hearing.unheard, PoolKept.{chosen_other, chosen_own}, Recorded.request_seen, Slots.gates_free, SparedRecord.there_within, Turning.view_found}, specs.{Admitting.{HasPlaceAt, joined_at}, Drained.{Duties, IsPool, IsOver, in_set, IsHeldOnce, IsBefore}, Gates.{AreLinedUp, HaveGates, IsKnown, has_hint_at, key_for, may_ask_hint}, Places.{Drops, drops_at, polled_in}, Sound.{HasGuest, IsTied, SoundAt, Stands, served_in}, Spares.Spares, Whole.{HasWhole, IsWhole, Profile, duties_of, with_worker}, Works.{Beside, Steps, Suits, Works}}}
 
 abbrev joins_here : ℕ → ℕ → Place
 joins_here t k = Place.Poll t (InPoll.JoinGate k)
@@ -34,14 +21,11 @@ module _ {B : Type 0} where
 
   pub joiner : (t k : ℕ) (w : Worker) (s : Shared B) → SoundAt (joins_here t k) w s → HasWhole w s → Joiner t k w s
   joiner t k w s sound has =
-      let joins : ((with_worker has.others w).drops_by w.index).joins ≡ Some k = ap (λ (d : Drops). d.joins) (chosen_own w.index (drops_at w.place) (has.others.drops_by w.index)) ∙ ap (λ p. (drops_at p).joins) sound.here in
-      let it = has.whole.gates.joins w.index k joins in
+      let it = has.whole.gates.joins w.index k (ap (λ (d : Drops). d.joins) (chosen_own w.index (drops_at w.place) (has.others.drops_by w.index)) ∙ ap (λ p. (drops_at p).joins) sound.here) in
       let stands = stands_there (served_in (joins_here t k)) w.index w.names (driver_of w) w.home.timers s.requests.items s.sleepers.items s.opens s.store sound.named sound.flown sound.carried sound.gates k it.r it.there it.mine (ungated_open it.r.shown.phase it.gated) in
-      let needs : needs_permit stands.it ≡ true = sym stands.alike.permit ∙ it.gated in
-      let durable = (and_parts (is_durable (asked_of stands.it.request).kind) (not stands.it.permit) needs).0 in
+      let durable = (and_parts (is_durable (asked_of stands.it.request).kind) (not stands.it.permit) (sym stands.alike.permit ∙ it.gated)).0 in
       let target : it.r.shown.operation.target ≡ target_of stands.it.request = sound.carried.target it.r.id.0 stands.it it.r stands.live (ap (slice_get s.requests.items) stands.number ∙ it.there) in
-      let within : it.r.shown.operation.target < length s.opens = sound.gates.there k it.r it.there (durable_of_file it.r.shown.operation.kind (sound.gates.durable k it.r it.there it.gated)) in
-      let o = there_within s.opens it.r.shown.operation.target within in
+      let o = there_within s.opens it.r.shown.operation.target (sound.gates.there k it.r it.there (durable_of_file it.r.shown.operation.kind (sound.gates.durable k it.r it.there it.gated))) in
       let may : MayJoin k it.r o.0 s.opens s.requests.items = record { there = it.there; open_there = o.1; gated = it.gated; apart = λ n. it.apart o.0 n o.1 } in
       let line = sound.gates.lines it.r.shown.operation.target o.0 o.1 in
       grind (arith, gate_there, place_made)
@@ -49,8 +33,7 @@ module _ {B : Type 0} where
   module _ (t k : ℕ) (w : Worker) (s : Shared B) (it : Joiner t k w s) where
     pub place_at : (r : Record) → slice_get s.requests.items k ≡ Some r → HasPlaceAt (driver_of w) r.id s.opens
     place_at r there =
-        let same : it.r ≡ r = same_Some it.r r (sym it.may.there ∙ there) in
-        subst (λ (x : Record). HasPlaceAt (driver_of w) x.id s.opens) same
+        subst (λ (x : Record). HasPlaceAt (driver_of w) x.id s.opens) (same_Some it.r r (sym it.may.there ∙ there))
         (subst (λ g. IfSome (open_named s.opens g) (λ o. 0 < o.coming)) (sym it.gate)
         (subst (λ o. IfSome o (λ o. 0 < o.coming)) (sym it.may.open_there) it.place))
 
@@ -106,18 +89,16 @@ module _ {B L : Type 0} (left : B → L) (spot : L → Option Said → Spot) (t 
 
   goes_sound : SoundAt (acts_here t) after shared_then
   goes_sound =
-      let here : acts_here t ≡ acts_here t = refl in
       let guest : HasGuest (Some t) InPoll.Act v.index v.root s.tasks.items = λ apart.
       let g = sound.guest apart in
       (g.0, g.1, record { ordinary = g.2.ordinary; polled = g.2.polled; body = g.2.body; poller = g.2.poller; cancelled = g.2.cancelled; told = g.2.told; untold = g.2.untold; there = g.2.there }) in
       let tied : IsTied (polled_in v.root (acts_here t)) v.index v.root s.tasks.items = record { stands = λ slot there. tied_by k v.index slot (t == v.root) (sound.tied.stands slot there) } in
-      let gates : AreLinedUp opens_then s.requests.items = lined in
       let known : IsKnown v.index v.names.requests.items (driver_of v).requests opens_then s.requests.items =
       (let asks : (id : Id) (x : Waiter Reply Reply) (r : Record) → waiter_at (driver_of v).requests id ≡ Some x → slice_get s.requests.items (number_in v.names.requests.items id) ≡ Some r
       → may_ask_hint r.shown.operation.kind ≡ true → r.shown.operation.unrefused ≡ true → (cursor_of x.request).hinted ≡ false → has_hint_at opens_then r.shown.operation.target ≡ false =
       λ id x r live there may unrefused none. hints r.shown.operation.target (sound.known.hints id x r live there may unrefused none) in
       assumption (asks, sound.known)) in
-      assumption (here, guest, tied, gates, known, sound)
+      assumption (refl, guest, tied, lined, known, sound)
 
   drops_else : (others : Profile) (j : ℕ) → j ≢ v.index → (with_worker others after).drops_by j ≡ (with_worker others before).drops_by j
   drops_else others j other = chosen_other j v.index (drops_at (acts_here t)) (others.drops_by j) other ∙ sym (chosen_other j v.index (drops_at (joins_here t k)) (others.drops_by j) other)
@@ -131,15 +112,13 @@ module _ {B L : Type 0} (left : B → L) (spot : L → Option Said → Spot) (t 
       let d1 = duties_of (with_worker others after) in
       let clears : (b : Bool) (o : Drops) → (if b then drops_at (acts_here t) else o).clears ≡ (if b then drops_at (joins_here t k) else o).clears = λ b o. elim b as (λ c. (if c then drops_at (acts_here t) else o).clears ≡ (if c then drops_at (joins_here t k) else o).clears) [ true ↦ refl | false ↦ refl ] in
       let removes : (b : Bool) (o : Drops) → (if b then drops_at (acts_here t) else o).removes ≡ (if b then drops_at (joins_here t k) else o).removes = λ b o. elim b as (λ c. (if c then drops_at (acts_here t) else o).removes ≡ (if c then drops_at (joins_here t k) else o).removes) [ true ↦ refl | false ↦ refl ] in
-      let pool : IsPool d1 s.tasks.items s.set s.seats.items = pool_drops d d1 s.tasks.items s.set s.seats.items refl refl (λ j. clears (j == v.index) (others.drops_by j)) (λ j. removes (j == v.index) (others.drops_by j)) whole.pool in
       let gates : HaveGates (with_worker others after).drops_by opens_then s.requests.items =
       gates_joined k it.r it.o s.opens s.requests.items it.may (with_worker others after).drops_by it.first
       (λ j l is same.
-      let mine : j ≡ v.index = same ∙ it.mine in
-      let none : None ≡ Some l = sym (ap (λ (x : Drops). x.joins) (drops_mine others)) ∙ ap (λ n. ((with_worker others after).drops_by n).joins) (sym mine) ∙ is in
+      let none : None ≡ Some l = sym (ap (λ (x : Drops). x.joins) (drops_mine others)) ∙ ap (λ n. ((with_worker others after).drops_by n).joins) (sym (same ∙ it.mine)) ∙ is in
       absurd (cc))
       (gates_free v.index (with_worker others before).drops_by (with_worker others after).drops_by s.opens s.requests.items (drops_else others) (ap (λ (x : Drops). x.passes) (drops_mine others)) (ap (λ (x : Drops). x.joins) (drops_mine others)) whole.gates) in
-      assumption (pool, gates, whole)
+      assumption (pool_drops d d1 s.tasks.items s.set s.seats.items refl refl (λ j. clears (j == v.index) (others.drops_by j)) (λ j. removes (j == v.index) (others.drops_by j)) whole.pool, gates, whole)
 
   goes_beside : Beside before s after shared_then
   goes_beside = record { spares = λ j other. spares_opens j s opens_then (lined_joined k it.r it.o s.opens s.requests.items it.may) hints; whole = goes_whole }
@@ -171,12 +150,9 @@ module _ {B L : Type 0} (left : B → L) (spot : L → Option Said → Spot) whe
   gate_joined t k w w' s s' e sound has event goes opens kept =
       let back : w ≡ record w { place = joins_here t k } = ap (λ p. record w { place = p }) sound.here in
       let it = joiner t k w s sound has in
-      let here : SoundAt (joins_here t k) (record w { place = joins_here t k }) s = subst (λ (x : Worker). SoundAt (joins_here t k) x s) back sound in
       let who : Joiner t k (record w { place = joins_here t k }) s = record { r = it.r; o = it.o; may = it.may; mine = it.mine; first = it.first; gate = it.gate; place = it.place } in
-      let now : s'.opens ≡ joined_in s.opens it.r it.o = opens it.r it.may.there ∙ opens_are t k w s it in
-      let shared : s' ≡ record s { opens = joined_in s.opens it.r it.o } = kept ∙ ap (λ os. record s { opens = os }) now in
       subst (λ (x : Worker). Steps left spot x s e w' s') (sym back)
       (subst (λ y. Steps left spot (record w { place = joins_here t k }) s y w' s') (sym event)
       (subst (λ (x : Worker). Steps left spot (record w { place = joins_here t k }) s Turn x s') (sym goes)
-      (subst (λ (z : Shared B). Steps left spot (record w { place = joins_here t k }) s Turn (record w { place = acts_here t }) z) (sym shared)
-      (goes_steps left spot t k w s here who))))
+      (subst (λ (z : Shared B). Steps left spot (record w { place = joins_here t k }) s Turn (record w { place = acts_here t }) z) (sym (kept ∙ ap (λ os. record s { opens = os }) (opens it.r it.may.there ∙ opens_are t k w s it)))
+      (goes_steps left spot t k w s (subst (λ (x : Worker). SoundAt (joins_here t k) x s) back sound) who))))

@@ -1,11 +1,5 @@
 -- A durable request joins the line at its gate, behind all who stand there.
-use Rattle.std.{proofs.{Common.{◌≡◌, ◌≢◌, ◌⊎◌, inl, inr, ℕ, zero, suc, ◌+◌, ◌-◌, ◌<◌, ◌≤◌, ◌==◌, ◌&&◌, ◌||◌, ◌++◌, arith, Bool, true, false, not, List, [], ◌∷◌, drop, length, map, Some, None, IsSome, refl, sym, ap, subst, ◌∙◌, slice_get, slice_set}, lemmas.{Bool.{eq-eqb, false≢true}, List.{length-set, map-append, Folds.list_any-append}}}, specs.List.list_any}
-use Rattle.exec_outcomes.specs.Accounts.{Account, is_durable}
-use Rattle.exec_opens.specs.{Opens.{OpenState, joined}, declared.opens.WaiterKey.WaiterKey}
-use Rattle.exec_machine.specs.{Requests.open_joined_by, Tests.{is_gated}, World.Open}
-use Rattle.exec_parts.{specs.{declared.parts.record.Record.Record, View.{gate_seen, line_of, number_of_key, open_seen}}, proofs.Facts.{and_parts, and_from, not-true, by_number, false_from_ne_true, or_right, same_Some, set_elsewhere, set_there}}
-use Rattle.exec_invariants.specs.{Gates.{AreLinedUp, HaveGates, IsLinedUp, at_gate, has_hint_at, is_coming, is_in_line, key_for, line_at, same_key}, Places.Drops}
-use Rattle.exec_invariants.proofs.Lined.{tallied, tally}
+use Rattle.exec_invariants.{proofs.{Names.{◌≡◌, ◌≢◌, ◌⊎◌, inl, inr, ℕ, zero, suc, ◌+◌, ◌-◌, ◌<◌, ◌≤◌, ◌==◌, ◌&&◌, ◌||◌, ◌++◌, arith, Bool, true, false, not, List, [], ◌∷◌, drop, length, map, Some, None, IsSome, refl, sym, ap, subst, ◌∙◌, slice_get, slice_set, eq-eqb, false≢true, length-set, map-append, list_any-append, list_any, Account, is_durable, OpenState, joined, WaiterKey, open_joined_by, is_gated, Open, Record, gate_seen, line_of, number_of_key, open_seen, and_parts, and_from, not-true, by_number, false_from_ne_true, or_right, same_Some, set_elsewhere, set_there, or_parts}, Lined.{tallied, tally}}, specs.{Gates.{AreLinedUp, HaveGates, IsLinedUp, at_gate, has_hint_at, is_coming, is_in_line, key_for, line_at, same_key}, Places.Drops}}
 
 -- LISTS
 
@@ -95,8 +89,7 @@ module _ (k : ℕ) (r : Record) (o : OpenState) (opens : List OpenState) (rs : L
   place_made line =
       let none : Record → Bool = λ x. false in
       let p : Record → Bool = λ x. is_coming r.shown.operation.target o (at_gate x) in
-      let some : tally none rs + 1 ≤ tally p rs = one_fewer p none rs k r (λ x never. absurd (false≢true never)) may.there comes refl in
-      omega (arith, some, tallied p rs, line.places)
+      omega (arith, one_fewer p none rs k r (λ x never. absurd (false≢true never)) may.there comes refl, tallied p rs, line.places)
 
   line_joined : AreLinedUp opens rs → (o' : OpenState) → HasJoined (key_for r) o o' → IsLinedUp r.shown.operation.target o' rs
   line_joined lined o' has =
@@ -115,7 +108,7 @@ module _ (k : ℕ) (r : Record) (o : OpenState) (opens : List OpenState) (rs : L
       (λ x h.
       let one = and_parts (is_gated x.shown.phase) ((x.shown.operation.target == file) && not (is_in_line (key_for x) o')) h in
       let two = and_parts (x.shown.operation.target == file) (not (is_in_line (key_for x) o')) one.1 in
-      let out : is_in_line (key_for x) o ≡ false = first_of (is_in_line (key_for x) o) (same_key (key_for x) (key_for r) || false) (sym (any (key_for x)) ∙ not-true (is_in_line (key_for x) o') two.1) in
+      let out : is_in_line (key_for x) o ≡ false = (or_parts (is_in_line (key_for x) o) (same_key (key_for x) (key_for r) || false) (sym (any (key_for x)) ∙ not-true (is_in_line (key_for x) o') two.1)).0 in
       and_from (is_gated x.shown.phase) ((x.shown.operation.target == file) && not (is_in_line (key_for x) o)) one.0 (and_from (x.shown.operation.target == file) (not (is_in_line (key_for x) o)) two.0 (ap not out)))
       may.there comes
       (let in_it : is_in_line (key_for r) o' ≡ true = any (key_for r) ∙ or_right (is_in_line (key_for r) o) (same_key (key_for r) (key_for r) || false) (ap (λ b. b || false) (key_self (key_for r) (key_for r) refl)) in
@@ -130,8 +123,7 @@ module _ (k : ℕ) (r : Record) (o : OpenState) (opens : List OpenState) (rs : L
             elim (split n key at) [
               | inl before ↦ line.durable n key m x before there is
               | inr last ↦
-                  let same : r ≡ x = itself m x there (is ∙ sym last.1) in
-                  subst (λ (y : Record). (is_durable y.shown.operation.kind ≡ true) × (y.shown.operation.target ≡ file)) same (lined.durable k r may.there may.gated, refl)
+                  subst (λ (y : Record). (is_durable y.shown.operation.kind ≡ true) × (y.shown.operation.target ≡ file)) (itself m x there (is ∙ sym last.1)) (lined.durable k r may.there may.gated, refl)
             ];
         waits = λ n key m x some at there is.
             elim (split n key at) [
@@ -156,21 +148,16 @@ module _ (k : ℕ) (r : Record) (o : OpenState) (opens : List OpenState) (rs : L
         kept = subst IsSome (sym has.account) line.kept;
         places = omega (arith, fewer, tallied p rs, tallied q rs, line.places, has.coming);
       }
-    where
-      first_of : (a b : Bool) → (a || b) ≡ false → a ≡ false
-      first_of true b h = absurd (false≢true (sym h))
-      first_of false b h = refl
 
   pub lined_joined : AreLinedUp opens rs → AreLinedUp (joined_in opens r o) rs
   lined_joined lined =
       let file = r.shown.operation.target in
-      let has = has_joined (key_for r) o (lined.lines file o may.open_there).first in
       let many : length (joined_in opens r o) ≡ length opens = length-set opens file (joined (key_for r) o) in
       record {
         lines = λ f x at.
             which_open opens r o f x may.open_there at
             (λ other before. lined.lines f x before)
-            (λ same is. subst (λ y. IsLinedUp f y rs) is (subst (λ n. IsLinedUp n (joined (key_for r) o) rs) (sym same) (line_joined lined (joined (key_for r) o) has)));
+            (λ same is. subst (λ y. IsLinedUp f y rs) is (subst (λ n. IsLinedUp n (joined (key_for r) o) rs) (sym same) (line_joined lined (joined (key_for r) o) (has_joined (key_for r) o (lined.lines file o may.open_there).first))));
         there = λ m x at of. subst (λ n. x.shown.operation.target < n) (sym many) (lined.there m x at of);
         durable = lined.durable;
         few = rw many lined.few;
@@ -191,7 +178,6 @@ module _ (k : ℕ) (r : Record) (o : OpenState) (opens : List OpenState) (rs : L
             by_number file r.shown.operation.target
             (λ other. record { o = p.o; open_there = set_elsewhere opens r.shown.operation.target file (joined (key_for r) o) other ∙ p.open_there; k = p.k; r = p.r; there = p.there; mine = p.mine; over = p.over; holds = p.holds })
             (λ same.
-            let is : p.o ≡ o = same_Some p.o o (sym p.open_there ∙ ap (slice_get opens) same ∙ may.open_there) in
             record {
               o = joined (key_for r) o;
               open_there = ap (slice_get (joined_in opens r o)) same ∙ set_there opens r.shown.operation.target (joined (key_for r) o) o may.open_there;
@@ -200,7 +186,7 @@ module _ (k : ℕ) (r : Record) (o : OpenState) (opens : List OpenState) (rs : L
               there = p.there;
               mine = p.mine;
               over = p.over;
-              holds = has.holds (key_for p.r) (ap (λ (y : OpenState). y.holder) (sym is) ∙ p.holds);
+              holds = has.holds (key_for p.r) (ap (λ (y : OpenState). y.holder) (sym (same_Some p.o o (sym p.open_there ∙ ap (slice_get opens) same ∙ may.open_there))) ∙ p.holds);
             });
         joins = λ j l is.
             let p = have.joins j l is in

@@ -1,19 +1,5 @@
 -- At which gate a request of a worker waits first: its driver says it as the machine does.
-use Rattle.std.{proofs.{Common.{◌≡◌, ◌⊎◌, ℕ, zero, suc, ◌+◌, ◌<◌, ◌≤◌, ◌&&◌, ◌||◌, Bool, true, false, not, List, [], ◌∷◌, length, map, nat_le, Option, Some, None, refl, sym, ap, subst, ◌∙◌, arith, inl, inr, slice_get}, lemmas.Bool.{false≢true, Decides.nat_tests, eq-eqb}}, specs.List.list_any}
-use Rattle.std.proofs.lemmas.Map.Keys.{any_passes_from_place}
-use Rattle.exec_base.specs.{Slab.{Slab, value_at}, declared.slab.Id.Id}
-use Rattle.exec_outcomes.specs.{Accounts.is_durable, declared.outcome.Kind.Kind}
-use Rattle.exec_time.specs.declared.timers.Sleeper.{Sleeper as Sleeping}
-use Rattle.exec_request.specs.{Requests.{asked_of, gate_of, target_of}, States.asks_cancel, declared.{request.Request.Request as Asking}}
-use Rattle.exec_waiters.{specs.{States.{gate_in, needs_permit, waiter_at}, declared.{waiter.{Entry.Entry, Waiter.Waiter}, waiter_id.WaiterId.WaiterId}}, proofs.Changes.entry_of}
-use Rattle.exec_driver.{specs.{Driving.{Driving, request_at, is_gated as waits_gated}, Placed.ListsRequests, Steps.{lower, lowest_gate}}, proofs.Turns.gate_from}
-use Rattle.exec_lists.{specs.Lists.is_among, proofs.Names.same_tells}
-use Rattle.exec_opens.specs.{Opens.OpenState, declared.opens.WaiterKey.WaiterKey}
-use Rattle.exec_ring.specs.declared.store.Store.{Store}
-use Rattle.exec_machine.specs.{declared.state.{Request.Request, RequestPhase.RequestPhase}, Tests.{is_gated, is_of_file, is_resolved}, World.Common}
-use Rattle.exec_moves.specs.{declared.place.InService.InService, Serve.first_numbered, Submit.{next_gate, waits_at}}
-use Rattle.exec_parts.{specs.{declared.parts.{mail.Reply.Reply, names.Names.Names, record.Record.Record, sleeping.SleeperRecord.SleeperRecord}, Records.number_in}, proofs.Facts.{and_right, and_parts, and_from, false_from_ne_true, same_Some}}
-use Rattle.exec_invariants.{specs.{Carried.IsCarried, Flown.HasFlown, Gates.AreLinedUp, Names.{IsAlike, IsNamed}}, proofs.{Idling.{first_none, none_any, shown_at}, Lined.mapped, SparedRecord.there_within}}
+use Rattle.exec_invariants.{proofs.{Names.{◌≡◌, ◌⊎◌, ℕ, zero, suc, ◌+◌, ◌<◌, ◌≤◌, ◌&&◌, ◌||◌, Bool, true, false, not, List, [], ◌∷◌, length, map, nat_le, Option, Some, None, refl, sym, ap, subst, ◌∙◌, arith, inl, inr, slice_get, false≢true, nat_tests, eq-eqb, list_any, any_passes_from_place, Slab, value_at, Id, is_durable, Kind, Sleeping, asked_of, gate_of, target_of, asks_cancel, Asking, gate_in, needs_permit, waiter_at, Entry, Waiter, WaiterId, entry_of, Driving, request_at, waits_gated, ListsRequests, lower, lowest_gate, gate_from, is_among, same_tells, OpenState, WaiterKey, Store, Request, RequestPhase, is_gated, is_of_file, is_resolved, Common, InService, first_numbered, next_gate, waits_at, Reply, Names, Record, SleeperRecord, number_in, and_right, and_parts, and_from, false_from_ne_true, same_Some}, Idling.{first_none, none_any, shown_at}, Lined.mapped, SparedRecord.there_within}, specs.{Carried.IsCarried, Flown.HasFlown, Gates.AreLinedUp, Names.{IsAlike, IsNamed}}}
 
 -- ITS GATE
 
@@ -118,9 +104,7 @@ module _ (x : Option InService) (i : ℕ) (n : Names) (d : Driving Reply Reply) 
       by None gone = absurd (false≢true (sym open_still ∙ named.over k r there mine gone))
       by (Some it) live =
           let old = named.requests r.id.0 (rw (entry_of (value_at d.requests r.id.0) it live) refl) in
-          let worker : old.0.shown.worker ≡ r.shown.worker = old.3 ∙ sym mine in
-          let id : old.0.id ≡ r.id = ap (λ (y : Id). record { 0 = y }) old.2 in
-          let number = lined.unique (number_in n.requests.items r.id.0) k old.0 r old.1 there (same_keys old.0.shown.worker r.shown.worker old.0.id r.id worker id) in
+          let number = lined.unique (number_in n.requests.items r.id.0) k old.0 r old.1 there (same_keys old.0.shown.worker r.shown.worker old.0.id r.id (old.3 ∙ sym mine) (ap (λ (y : Id). record { 0 = y }) old.2)) in
           record { it = it; live = live; number = number; alike = named.alike r.id.0 it r live (ap (slice_get rs) number ∙ there) }
 
   gate_listed : (k : ℕ) (r : Record) → slice_get rs k ≡ Some r → r.shown.worker ≡ i → is_gated r.shown.phase ≡ true → StandsIn d.requests d.lists.gated r.shown.operation.target
@@ -190,8 +174,7 @@ module _ (x : Option InService) (i : ℕ) (n : Names) (d : Driving Reply Reply) 
       let w = waits_there file stood.id (lists.gated stood.id stood.among) stood.gate in
       let k = number_in n.requests.items stood.id.0 in
       let of_file = durable_of_file w.r.shown.operation.kind (lined.durable k w.r w.there w.gated) in
-      let within : file < length s.opens = subst (λ m. m < length s.opens) w.target (subst (λ m. w.r.shown.operation.target < m) (sym many) (lined.there k w.r w.there of_file)) in
-      let o = there_within s.opens file within in
+      let o = there_within s.opens file (subst (λ m. m < length s.opens) w.target (subst (λ m. w.r.shown.operation.target < m) (sym many) (lined.there k w.r w.there of_file))) in
       let le : gate ≤ file = gate_from gate d.requests d.lists.gated None (λ f never. absurd (let none : None ≡ Some f = never in cc)) file is in
       first_some (λ f o. nat_le gate f && list_any (waits_at i f) s.requests) 0 s.opens file o.0 o.1
       (λ m so.

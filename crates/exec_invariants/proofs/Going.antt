@@ -1,14 +1,5 @@
 -- Requests that go on: none ends, nor begins, nor is let go of. What that leaves as it was.
-use Rattle.std.{proofs.{Common.{◌≡◌, ℕ, ◌+◌, ◌≤◌, true, false, List, map, Some, IsSome, refl, sym, ap, subst, ◌∙◌, slice_get}, Math.Seq.map-set_same, lemmas.Option.get_or_from_slice_get}, specs.Prelude.Contains}
-use Rattle.std.proofs.Common.{arith}
-use Rattle.exec_base.specs.{Slab.{Slab, value_at}, declared.slab.Id.Id}
-use Rattle.exec_time.specs.declared.timers.Sleeper.{Sleeper as Sleeping}
-use Rattle.exec_request.specs.declared.output.RequestOutput.{RequestOutput}
-use Rattle.exec_waiters.specs.{States.waiter_at, declared.{deferred.{Deferred.Deferred, Answer.Answer}, waiter.{Entry.TheVariants.Ready, Waiter.Waiter}, observer.Observer.TheVariants.Forwarded}}
-use Rattle.exec_driver.specs.Driving.{Driving}
-use Rattle.exec_machine.specs.{Tests.{is_applied, is_resolved}}
-use Rattle.exec_parts.specs.{declared.parts.{mail.Reply.Reply, names.Names.Names, record.Record.Record, sleeping.SleeperRecord.SleeperRecord}, Records.{number_in}, Serving.{changed_at, changed_in}}
-use Rattle.exec_invariants.specs.{Holding.{IsAnswerOf, thing_of}, Places.one_if, Rooted.{IsReplyFor, IsRooted, Watches, goes_elsewhere, results_of, IsKept, StandsAt, IsResult, Pays}, Sound.AreOver}
+use Rattle.exec_invariants.{proofs.Names.{◌≡◌, ℕ, ◌+◌, ◌≤◌, true, false, List, map, Some, IsSome, refl, sym, ap, subst, ◌∙◌, slice_get, map-set_same, get_or_from_slice_get, Contains, arith, Slab, value_at, Id, Sleeping, RequestOutput, waiter_at, Deferred, Answer, Ready, Waiter, Forwarded, Driving, is_applied, is_resolved, Reply, Names, Record, SleeperRecord, number_in, changed_at, changed_in}, specs.{Holding.{IsAnswerOf, thing_of}, Places.one_if, Rooted.{IsReplyFor, IsRooted, Watches, goes_elsewhere, results_of, IsKept, StandsAt, IsResult, Pays}, Sound.AreOver}}
 
 -- of a request how far its operation came, its deadline and its cancel may change
 pub record GoesOn (r r' : Record) : Type 0 where

@@ -1,13 +1,6 @@
 -- Where a place leads that hands something on: a search count, a kick, a signal. It is of the kind of what comes after.
-use Rattle.std.proofs.{Common.{◌≡◌, ℕ, ◌==◌, Bool, true, false, IsSome, List, [], None, Option, Some, refl, sym, ap, ◌∙◌, slice_get, arith}}
+use Rattle.exec_invariants.{proofs.{Names.{◌≡◌, ℕ, ◌==◌, Bool, true, false, IsSome, List, [], None, Option, Some, refl, sym, ap, ◌∙◌, slice_get, arith, Idle, lowest_of, Queue, Said, Runnable, Configuration, Plan, ring_size, AfterCallbacks, AfterKick, AfterLeave, AfterPush, InKick, AfterService, InCallbacks, InPick, InPoll, Place, next_callback, serve, has_some as has_any, leaves_for_turn, next_turn, after_kick, after_leave, after_push, after_return, true_false, closes_at, closing_in, Role, Chair, Shared, Worker, Spot, after_kick_of, after_leave_of, after_push_of, after_return_of, has_put_off, leaves_turn_of, next_callback_of, next_pick_of, next_turn_of, Views, common_of, desk_of, driver_of, own_of}, Turning.lower_on, Counting.Stance, Idled.{calm_of, Comes, comes, Settles, settles_either}, Standing.{requests_seen, submissions_seen}}, specs.{Works.Suits, Holding.Mail, HoldPlaces.{callbacks_after_push, callbacks_at, is_bare_at, spare_at}, Kinds.lowered, Places.{has_count_at, is_pooled_at, is_published_at, searches_at}, Sound.{Aims, has_wakes_at, HasBatch, HasQueue, IsSearching, SoundAt}}}
 pub use Rattle.std.proofs.lemmas.Bool.{ltb-true, ltb-false}
-use Rattle.exec_words.specs.{Idle.{Idle, lowest_of}, Queue.Queue}
-use Rattle.exec_task.specs.declared.{body.Said.Said, runnable.Runnable.Runnable}
-use Rattle.exec_machine.specs.{declared.config.Configuration.Configuration, Progress.Plan, Ranges.ring_size}
-use Rattle.exec_moves.specs.{declared.{handing.{AfterCallbacks.AfterCallbacks, AfterKick.AfterKick, AfterLeave.AfterLeave, AfterPush.AfterPush, InKick.InKick}, place.{AfterService.AfterService, InCallbacks.InCallbacks, InPick.InPick, InPoll.InPoll, Place.Place}}, Callback.{next_callback, serve}, Global.has_any, Load.{leaves_for_turn, next_turn}, Parts.{after_kick, after_leave, after_push, after_return}}
-use Rattle.exec_parts.proofs.Facts.{true_false}
-use Rattle.exec_parts.specs.{Phased.{closes_at, closing_in}, declared.parts.{role.Role.Role, seat.Seat.Seat as Chair, shared.Shared.Shared, worker.Worker.Worker}, Spots.Spot, Tests.{after_kick_of, after_leave_of, after_push_of, after_return_of, has_put_off, leaves_turn_of, next_callback_of, next_pick_of, next_turn_of}, View.{Views, common_of, desk_of, driver_of, own_of}}
-use Rattle.exec_invariants.{specs.{Works.Suits, Holding.Mail, HoldPlaces.{callbacks_after_push, callbacks_at, is_bare_at, spare_at}, Kinds.{lowered}, Places.{has_count_at, is_pooled_at, is_published_at, searches_at}, Sound.{Aims, has_wakes_at, HasBatch, HasQueue, IsSearching, SoundAt}}, proofs.{Turning.{lower_on}, Counting.Stance, Idled.{calm_of, Comes, comes, Settles, settles_either}, Standing.{requests_seen, submissions_seen}}}
 
 calls_alike : (n : AfterCallbacks) → calm_of (Place.Callbacks InCallbacks.CallBack n) ≡ calm_of (Place.LeaveSearch (AfterLeave.CallBack n))
 calls_alike = grind arith

@@ -1,9 +1,5 @@
 -- What a take of the mailbox hands over, by what is there.
-use Rattle.std.proofs.Common.{◌≡◌, ℕ, zero, suc, ◌+◌, ◌≤◌, List, [], ◌∷◌, map, Some, refl, ap, arith, slice_get, slice_set, if◌then◌else◌}
-use Rattle.exec_words.specs.{Inbox.{Inbox, batch_handed, batch_taken, has_any}, Reserved.Reserved, Word.next_batch}
-use Rattle.exec_moves.specs.declared.place.Place.{Place}
-use Rattle.exec_parts.specs.{declared.parts.{mail.Subject.Subject, record.Record.Record, seat.Seat.Seat as Chair, sleeping.SleeperRecord.SleeperRecord, worker.Worker.Worker}, Calls.IsTold, View.{Visible, driver_of, polls_seen, raised_times, seat_seen, seats_seen}}
-use Rattle.exec_invariants.{specs.{Holding.{IsAbout, IsOf, Mail, nap_of, thing_of}, Places.{claims_at, drops_at, has_count_at, is_published_at}, Sound.{IsMineIn, IsMyMail}, Names.tellers}, proofs.{Lined.unmapped, Resolving.places_fewer, Turning.IsTurn}}
+use Rattle.exec_invariants.{proofs.{Names.{◌≡◌, ℕ, zero, suc, ◌+◌, ◌≤◌, List, [], ◌∷◌, map, Some, refl, ap, arith, slice_get, slice_set, if◌then◌else◌, Inbox, batch_handed, batch_taken, has_any, Reserved, next_batch, Place, Subject, Record, Chair, SleeperRecord, Worker, IsTold, Visible, driver_of, polls_seen, raised_times, seat_seen, seats_seen}, Lined.unmapped, Resolving.places_fewer, Turning.IsTurn}, specs.{Holding.{IsAbout, IsOf, Mail, nap_of, thing_of}, Places.{claims_at, drops_at, has_count_at, is_published_at}, Sound.{IsMineIn, IsMyMail}, Names.tellers}}
 
 -- WHAT A TAKE HANDS OVER, by what is there
 

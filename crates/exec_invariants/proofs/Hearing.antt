@@ -1,10 +1,5 @@
 -- Where no act was made: a root can be told what it could.
-use Rattle.std.proofs.{Common.{◌≡◌, ℕ, true, List, Option, Some, None, refl, slice_get, slice_set}, lemmas.List.length-set}
-use Rattle.std.proofs.Common.{arith}
-use Rattle.exec_task.specs.declared.body.Said.{Said}
-use Rattle.exec_machine.specs.{declared.state.Waiting.Waiting, Tasks.begun_waiting}
-use Rattle.exec_parts.{specs.{Records.numbers_held, declared.parts.{shared.Shared.Shared, task_slot.TaskSlot.TaskSlot, worker.Worker.Worker}, Phased.is_complete}, proofs.Facts.{by_number, set_elsewhere, set_there}}
-use Rattle.exec_invariants.specs.Hearing.{CanHear, Hears, StillHears, held_once_come}
+use Rattle.exec_invariants.{proofs.Names.{◌≡◌, ℕ, true, List, Option, Some, None, refl, slice_get, slice_set, length-set, arith, Said, Waiting, begun_waiting, numbers_held, Shared, TaskSlot, Worker, is_complete, by_number, set_elsewhere, set_there}, specs.Hearing.{CanHear, Hears, StillHears, held_once_come}}
 
 -- what is waited for as a poll begins can be heard as before
 pub hears_begun : (told : Option Said) (u : Waiting) (held : List ℕ) (answer : Said) → CanHear told (begun_waiting u) answer → CanHear told u answer × (held_once_come u held ≡ held_once_come (begun_waiting u) held)

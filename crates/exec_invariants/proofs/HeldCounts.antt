@@ -1,9 +1,5 @@
 -- Of how many requests somebody may take or let go the output, once one changed; and the slots, as they are seen then.
-use Rattle.std.proofs.{Common.{◌≡◌, ℕ, zero, suc, ◌+◌, Bool, true, false, cond, List, [], ◌∷◌, set, slice_get, slice_index_or, Some, None, refl, ap, arith, if◌then◌else◌}, lemmas.List.Sums.sum_by-set}
-use Rattle.exec_base.specs.{Slab.{Slab, is_live, removed, value_at, written}, declared.slab.{Id.Id, Slot.{Slot, TheVariants.{Live, Vacant, Retired}}}}
-use Rattle.exec_waiters.{specs.{States.is_held, declared.waiter.Entry.Entry}, proofs.Changes.{at_by, one_if}}
-use Rattle.exec_parts.specs.{declared.parts.mail.Reply.Reply, View.{awaited_from, awaits_entry, is_awaited, slots_from}}
-use Rattle.exec_invariants.specs.Names.{counts_held, held_count}
+use Rattle.exec_invariants.{proofs.Names.{◌≡◌, ℕ, zero, suc, ◌+◌, Bool, true, false, cond, List, [], ◌∷◌, set, slice_get, slice_index_or, Some, None, refl, ap, arith, if◌then◌else◌, sum_by-set, Slab, is_live, removed, value_at, written, Id, Slot, Live, Vacant, Retired, is_held, Entry, at_by, one_if, Reply, awaited_from, awaits_entry, is_awaited, slots_from}, specs.Names.{counts_held, held_count}}
 
 pub held_written : (s : Slab (Entry Reply Reply)) (id : Id) (was is : Entry Reply Reply) → value_at s id ≡ Some was → held_count (written s id is) + one_if (is_held was) ≡ held_count s + one_if (is_held is)
 held_written = grind (arith, at_by, one_if, sum_by-set)

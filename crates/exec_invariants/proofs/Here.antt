@@ -1,10 +1,5 @@
 -- The task that a worker polls, be it the root or an ordinary one.
-use Rattle.std.proofs.{Common.{◌≡◌, ◌≢◌, ℕ, true, false, Some, None, IsSome, refl, sym, ap, subst, ◌∙◌, slice_get}}
-use Rattle.std.proofs.Common.{arith}
-use Rattle.exec_task.specs.{Phases.is_polled, declared.{task.Phase.Phase}}
-use Rattle.exec_moves.specs.{declared.place.{InPoll.InPoll, Place.Place}, Seen.polls_in}
-use Rattle.exec_parts.{specs.{declared.parts.{shared.Shared.Shared, task_slot.TaskSlot.TaskSlot, worker.Worker.Worker}, Phased.is_complete}, proofs.Facts.by_number}
-use Rattle.exec_invariants.{specs.{Places.polled_in, Sound.{HasGuest, IsGuest, SoundAt, Stands, WaitsAt, acts_next, is_told}}, proofs.Polling.in_own_poll}
+use Rattle.exec_invariants.{proofs.{Names.{◌≡◌, ◌≢◌, ℕ, true, false, Some, None, IsSome, refl, sym, ap, subst, ◌∙◌, slice_get, arith, is_polled, Phase, InPoll, Place, polls_in, Shared, TaskSlot, Worker, is_complete, by_number}, Polling.in_own_poll}, specs.Sound.{HasGuest, IsGuest, SoundAt, Stands, WaitsAt, acts_next, is_told}}
 
 module _ {B : Type 0} where
   pub record IsHere (x : InPoll) (t : ℕ) (w : Worker) (s : Shared B) : Type 0 where
@@ -31,8 +26,7 @@ module _ {B : Type 0} where
       root same =
           let slot = sound.runnable.root in
           let there : slice_get s.tasks.items t ≡ Some slot = ap (slice_get s.tasks.items) same ∙ sound.runnable.there in
-          let own : polled_in w.root (Place.Poll t x) ≡ Some x = in_own_poll w.root (polls_in t x) x (polls ∙ ap (λ n. Some n) same) in
-          let it : Stands (Some x) w.index slot = subst (λ y. Stands y w.index slot) own (sound.tied.stands slot sound.runnable.there) in
+          let it : Stands (Some x) w.index slot = subst (λ y. Stands y w.index slot) (in_own_poll w.root (polls_in t x) x (polls ∙ ap (λ n. Some n) same)) (sound.tied.stands slot sound.runnable.there) in
           record {
             slot = slot;
             there = there;

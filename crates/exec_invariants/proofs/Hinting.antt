@@ -1,16 +1,5 @@
 -- What a request keeps as its operations are staged: its buffer, its room, and its wish for the hint.
-use Rattle.std.{specs.{BTreeMap.get, Ordering.nat_cmp}, proofs.{Common.{◌≡◌, ℕ, ◌+◌, ◌-◌, ◌/◌, ◌<◌, ◌&&◌, ◌||◌, Bool, true, false, ◌^◌, List, length, map, nat_lt, slice_get, slice_index_or, IsSome, Option, Some, None, if◌then◌else◌, refl, sym, ap, subst, ◌∙◌, arith}, lemmas.{Bool.{false≢true, Decides.nat_tests}, Option.get_or_from_slice_get}}}
-use Rattle.std.proofs.lemmas.Bool.{or_parts}
-use Rattle.exec_outcomes.specs.{Accounts.Account, Outcomes.{counted_for, cursor_next, moves_on, part_now}, declared.outcome.{Judged.Judged, Kind.Kind}}
-use Rattle.exec_request.specs.{Buffers.{length_of, moved_of}, Hints.{AsksOn, has_hint}, Kept.{Owned, kept_of, rewound}, Requests.{asked_of, cursor_of, target_of, window_by}, Syncing.{is_syncing, write_kind}, Ways.{narrowed}, declared.{request.Request.Request as Asking, write_at.{WriteAtRequest.WriteAtRequest, WriteAtState.WriteAtState}}}
-use Rattle.exec_ring.specs.{Files.HasPage, Stores.{CoversIn, HasStretch}, declared.{file.File.File, store.Store.Store}}
-use Rattle.exec_waiters.specs.States.{file_of}
-use Rattle.exec_opens.specs.Opens.{OpenState, account_by, account_in}
-use Rattle.exec_driver.specs.Footprints.{bytes_left}
-use Rattle.exec_machine.specs.{declared.state.Operation.Operation, Requests.{asks_hint, with_hint}, Same.same_kind, Tests.is_of_file, World.{Open, no_open}}
-use Rattle.exec_parts.specs.{declared.parts.record.Record.Record, Records.file_named, Serving.is_cancel, View.{account_seen, open_seen}}
-use Rattle.exec_invariants.specs.Submitting.{takes_hint}
-use Rattle.exec_invariants.{specs.{Carried.HasStretchFor, Flown.is_poll, Gates.{AreLinedUp, has_hint_at, may_ask_hint}}, proofs.{Lined.mapped, SparedRecord.there_within}}
+use Rattle.exec_invariants.{proofs.{Names.{get, nat_cmp, ◌≡◌, ℕ, ◌+◌, ◌-◌, ◌/◌, ◌<◌, ◌&&◌, ◌||◌, Bool, true, false, ◌^◌, List, length, map, nat_lt, slice_get, slice_index_or, IsSome, Option, Some, None, if◌then◌else◌, refl, sym, ap, subst, ◌∙◌, arith, false≢true, nat_tests, get_or_from_slice_get, or_parts, Account, counted_for, cursor_next, moves_on, part_now, Judged, Kind, length_of, moved_of, AsksOn, has_hint, kept_of, asked_of, cursor_of, target_of, window_by, is_syncing, write_kind, Asking, WriteAtRequest, WriteAtState, HasPage, CoversIn, HasStretch, File, Store, file_of, OpenState, account_by, account_in, bytes_left, Operation, asks_hint, with_hint, same_kind, is_of_file, Open, no_open, Record, file_named, is_cancel, account_seen, open_seen}, Lined.mapped, SparedRecord.there_within}, specs.{Submitting.takes_hint, Carried.HasStretchFor, Flown.is_poll, Gates.{AreLinedUp, has_hint_at, may_ask_hint}}}
 
 -- ITS OPERATIONS are neither cancels nor the wake poll
 
@@ -38,18 +27,6 @@ covers_part (Some f) from to n m part none h = λ k less. let it = part k less i
 
 -- where it goes on after a result there is room for the rest
 pub stretch_judged : (q q' : Asking) (j : Judged) (st : Store) → kept_of q' ≡ kept_of q → cursor_of q' ≡ cursor_next (asked_of q) (cursor_of q) j → HasStretchFor q st → HasStretchFor q' st
-stretch_judged q (Asking.Send s) j st kept cursor has = tt
-stretch_judged q (Asking.Recv r) j st kept cursor has = tt
-stretch_judged q (Asking.ReadAt r) j st kept cursor has = tt
-stretch_judged q (Asking.Sync s) j st kept cursor has = tt
-stretch_judged q (Asking.Connect c) j st kept cursor has = tt
-stretch_judged q (Asking.Poll p) j st kept cursor has = tt
-stretch_judged (Asking.Send s) (Asking.WriteAt w) j st kept cursor has = absurd (writes_kind w.state (ap (λ k. k.asked.kind) kept))
-stretch_judged (Asking.Recv r) (Asking.WriteAt w) j st kept cursor has = absurd (let no : Owned.BytesOut (rewound w.write) ≡ Owned.BytesIn r.buf = ap (λ k. k.owned) kept in cc)
-stretch_judged (Asking.ReadAt r) (Asking.WriteAt w) j st kept cursor has = absurd (let no : Owned.BytesOut (rewound w.write) ≡ Owned.BytesIn (narrowed r.way r.buf) = ap (λ k. k.owned) kept in cc)
-stretch_judged (Asking.Sync s) (Asking.WriteAt w) j st kept cursor has = absurd (let no : Owned.BytesOut (rewound w.write) ≡ Owned.NoBytes = ap (λ k. k.owned) kept in cc)
-stretch_judged (Asking.Connect c) (Asking.WriteAt w) j st kept cursor has = absurd (let no : Owned.BytesOut (rewound w.write) ≡ Owned.NoBytes = ap (λ k. k.owned) kept in cc)
-stretch_judged (Asking.Poll p) (Asking.WriteAt w) j st kept cursor has = absurd (let no : Owned.BytesOut (rewound w.write) ≡ Owned.NoBytes = ap (λ k. k.owned) kept in cc)
 stretch_judged (Asking.WriteAt x) (Asking.WriteAt w) j st kept cursor has = λ writes.
     let asked = asked_of (Asking.WriteAt x) in
     let was = cursor_of (Asking.WriteAt x) in
@@ -64,6 +41,9 @@ stretch_judged (Asking.WriteAt x) (Asking.WriteAt w) j st kept cursor has = λ w
     (λ k less. (moved_of w.write - moved_of x.write + k, omega (arith, less, before, more, length, place), omega (arith, less, before, more, length)))
     (λ none. omega (arith, none, before, more, length))
     (has both.0))
+stretch_judged (Asking.Send s) (Asking.WriteAt w) j st kept cursor has = absurd (writes_kind w.state (ap (λ k. k.asked.kind) kept))
+stretch_judged _ (Asking.WriteAt w) j st kept cursor has = absurd (cc (ap (λ k. k.owned) kept))
+stretch_judged q _ j st kept cursor has = tt
 
 -- THE HINT: a record asks for it just where its next operation has it
 
@@ -128,8 +108,6 @@ hint_seen rs opens o lined within = by (may_ask_hint o.kind) refl
         let inside = within (may_of_file o.kind may) in
         let it = there_within opens o.target inside in
         let kept = some_there it.0.account (lined.lines o.target it.0 it.1).kept in
-        let few = lined.few in
-        let named : takes_hint opens o.target ≡ has_hint_at opens o.target = takes_named opens o.target (omega (arith, inside, few)) in
-        let account : account_in opens (Some o.target) ≡ Some kept.0 = ap account_by it.1 ∙ kept.1 in
+        let named : takes_hint opens o.target ≡ has_hint_at opens o.target = takes_named opens o.target (omega (arith, inside, lined.few)) in
         ap (λ b. with_hint b o)
-        (named ∙ ap has_hint account ∙ sym (ap (λ (x : Open). x.account.hinted) (open_there rs opens o.target it.0 it.1) ∙ ap (λ a. (account_seen a).hinted) kept.1))
+        (named ∙ ap has_hint (ap account_by it.1 ∙ kept.1) ∙ sym (ap (λ (x : Open). x.account.hinted) (open_there rs opens o.target it.0 it.1) ∙ ap (λ a. (account_seen a).hinted) kept.1))

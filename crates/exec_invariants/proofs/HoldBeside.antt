@@ -1,10 +1,5 @@
 -- WHAT A STEP OF A POLL LEAVES OF OTHERS, where the polled task takes, or waits for, or lets go of what another worker may have.
-use Rattle.std.{proofs.{Common.{◌≡◌, ◌≢◌, inl, ℕ, ◌+◌, ◌≤◌, ◌==◌, not, Contains, List, ◌++◌, length, map, Some, refl, sym, ap, subst, ◌∙◌, slice_get, slice_set}, lemmas.List.length-set}, specs.Prelude.{false, None, nat_lt}}
-use Rattle.std.proofs.Common.{arith}
-use Rattle.exec_words.specs.Queue.{Queue}
-use Rattle.exec_task.specs.{Phases.{is_polled, runnable_of}, declared.{runnable.Runnable.Runnable, task.Task.{Task as TaskCell}}}
-use Rattle.exec_parts.{specs.{declared.parts.{shared.Shared.Shared, task_slot.TaskSlot.TaskSlot, worker.Worker.Worker, seat.Seat.Seat as Chair}, Phased.is_complete}, proofs.Facts.{by_number, same_Some, set_elsewhere, set_there}}
-use Rattle.exec_invariants.{specs.{Holding.{IsHolding, box_of, holder_of, nap_of, thing_of}, Sound.AreHome, Spares.Spares, Drained.{IsBefore, IsPool}, Gates.HaveGates, Places.one_if, Whole.{HasOne, IsGenuine, IsWhole, Profile, duties_of, hands_of, may_let_go, runnables_in, stock, with_worker, queued}, Works.Beside}, proofs.{Aside.{SameProfile, SparesSeats, length_same, profile_same, queue_back, queue_of_chair, stock_same}, HoldThings.{Touches, spares_touched}, Lined.{KeepsLines, gates_kept}, PoolKept.{KeepsGates, pool_seats, pool_slot}, Slots.spares_slot, SlotTasks.Keeps}}
+use Rattle.exec_invariants.{proofs.{Names.{◌≡◌, ◌≢◌, inl, ℕ, ◌+◌, ◌≤◌, ◌==◌, not, Contains, List, ◌++◌, length, map, Some, refl, sym, ap, subst, ◌∙◌, slice_get, slice_set, length-set, false, None, nat_lt, arith, Queue, is_polled, runnable_of, Runnable, TaskCell, Shared, TaskSlot, Worker, Chair, is_complete, by_number, same_Some, set_elsewhere, set_there}, Aside.{SameProfile, SparesSeats, length_same, profile_same, queue_back, queue_of_chair, stock_same}, HoldThings.{Touches, spares_touched}, Lined.{KeepsLines, gates_kept}, PoolKept.{KeepsGates, pool_seats, pool_slot}, Slots.spares_slot, SlotTasks.Keeps}, specs.{Holding.{IsHolding, box_of, holder_of, nap_of, thing_of}, Sound.AreHome, Spares.Spares, Drained.{IsBefore, IsPool}, Gates.HaveGates, Places.one_if, Whole.{HasOne, IsGenuine, IsWhole, Profile, duties_of, hands_of, may_let_go, runnables_in, stock, with_worker, queued}, Works.Beside}}
 
 module _ {B : Type 0} where
   -- task t's slot became another of the same cell
@@ -66,7 +61,6 @@ module _ {B : Type 0} where
       → Holds x (dealt_in s s') → IsWhole x s → IsWhole x (dealt_in s s')
   whole_handled t i s s' slot slot' x it gates queues lines holds whole =
       let many : length s'.tasks.items ≡ length s.tasks.items = ap length it.items ∙ length-set s.tasks.items t slot' in
-      let seats : length s'.seats.items ≡ length s.seats.items = length_same s.seats.items s'.seats.items queues in
       let stocks : (u : ℕ) → stock u (dealt_in s s') ≡ stock u s = λ u. ap (λ n. n + runnables_in u s.global.values) (stock_same u s.seats.items s'.seats.items queues) in
       let was : (u : ℕ) (o : TaskSlot B) → slice_get s'.tasks.items u ≡ Some o → WasThere s.tasks.items u o = was_there t s s' slot slot' it in
       let runnables : (t : ℕ) (slot : TaskSlot B) → slice_get s'.tasks.items t ≡ Some slot → slot.home ≡ None → HasOne (may_let_go (dealt_in s s')) slot.cell.phase (x.runnables t + stock t (dealt_in s s')) = λ u o at home.
@@ -84,7 +78,7 @@ module _ {B : Type 0} where
       let places : s.global.closed ≡ false → length s'.tasks.items ≤ s.global.places = λ open_still. subst (λ n. n ≤ s.global.places) (sym many) (whole.places open_still) in
       let made : (t : ℕ) → length s'.tasks.items ≤ t → (x.runnables t + stock t (dealt_in s s') ≡ 0) × (x.polls t ≡ 0) =
       λ u more. let old = whole.made u (subst (λ n. n ≤ u) many more) in (ap (λ n. x.runnables u + n) (stocks u) ∙ old.0, old.1) in
-      let unclaimed : (j : ℕ) → length s'.seats.items ≤ j → x.claims j ≡ 0 = λ j more. whole.unclaimed j (subst (λ n. n ≤ j) seats more) in
+      let unclaimed : (j : ℕ) → length s'.seats.items ≤ j → x.claims j ≡ 0 = λ j more. whole.unclaimed j (subst (λ n. n ≤ j) (length_same s.seats.items s'.seats.items queues) more) in
       let in_pool : (j : ℕ) (chair : Chair) → slice_get s'.seats.items j ≡ Some chair → chair.pool ≡ nat_lt j s.config.workers = λ j chair at. let old = gates.back j chair at in old.2.pool ∙ whole.in_pool j old.0 old.1 in
       let pool : IsPool (duties_of x) s'.tasks.items s.set s'.seats.items = pool_seats (duties_of x) s'.tasks.items s.set s.seats.items s'.seats.items gates
       (pool_slot t i (duties_of x) (duties_of x) s.tasks.items s'.tasks.items s.set s.seats.items slot slot' it.there it.items
@@ -97,8 +91,7 @@ module _ {B : Type 0} where
         drops_beside = λ j other. refl;
         polls_others = λ u other is. is;
         polls = λ home polled.
-            let by = whole.pool.who_polls t slot it.there home (ap (λ (c : TaskCell B). is_polled c.phase) (sym it.cell) ∙ polled) in
-            subst (λ j. IsBefore j s.seats.items × (x.polled_by j ≡ Some t)) (sym it.poller) by;
+            subst (λ j. IsBefore j s.seats.items × (x.polled_by j ≡ Some t)) (sym it.poller) (whole.pool.who_polls t slot it.there home (ap (λ (c : TaskCell B). is_polled c.phase) (sym it.cell) ∙ polled));
         clears_next = refl;
         removes_next = λ u is. inl is;
       }) whole.pool) in

@@ -1,11 +1,6 @@
 -- WHAT TASKS HOLD, where a worker is told of a request that nobody holds it, or that it is waited for elsewhere; and where it
 -- pays a wake.
-use Rattle.std.proofs.{Common.{◌≡◌, ◌≢◌, ℕ, ◌+◌, ◌<◌, ◌≤◌, ◌&&◌, Bool, true, false, not, List, sum_by, Option, Some, None, IsSome, refl, sym, ap, subst, ◌∙◌, arith, slice_get, slice_set}, lemmas.Bool.false≢true}
-use Rattle.exec_machine.specs.{declared.state.Forwarding.TheVariants.Applied, Tests.is_unsent}
-use Rattle.exec_words.specs.declared.inbox.Message.{Message}
-use Rattle.exec_parts.{specs.declared.parts.mail.Subject.Subject, proofs.Facts.{by_number, same_Some, set_elsewhere, set_there}}
-use Rattle.exec_invariants.{specs.Holding.{Box, Hands, HasAnswer, Holder, HoldsRequest, IsAbout, IsDue, IsForwarded, IsHeldBy, IsHolding, Mail, MayHave, Nap, Owes, Thing, ThingOwes, holdings, is_awaited_by, mail_in, under_way}, proofs.{Turning.set_found, HoldRedo.{IsApart, holding_redone}, HoldSteps.{IsNewest, fewer_held, hold_once, one_more, same_else, awaits_on, held_in, holdings_on, homes_on, waiters_on}}}
-use Rattle.exec_parts.specs.declared.parts.mail.Subject.TheVariants as subject
+use Rattle.exec_invariants.{proofs.{Names.{◌≡◌, ◌≢◌, ℕ, ◌+◌, ◌<◌, ◌≤◌, ◌&&◌, Bool, true, false, not, List, sum_by, Option, Some, None, refl, sym, ap, subst, ◌∙◌, arith, slice_get, slice_set, false≢true, Applied, is_unsent, Message, Subject, by_number, same_Some, set_elsewhere, set_there, subject}, Turning.set_found, HoldRedo.{IsApart, holding_redone}, HoldSteps.{IsNewest, fewer_held, hold_once, one_more, same_else, awaits_on, held_in, holdings_on, homes_on, waiters_on, holds_on}}, specs.Holding.{Box, Hands, HasAnswer, Holder, HoldsRequest, IsAbout, IsDue, IsForwarded, IsHeldBy, IsHolding, Mail, Nap, Owes, Thing, ThingOwes, holdings, is_awaited_by, mail_in, under_way}}
 
 -- A REQUEST OF ITS OWN that a task lets go of elsewhere: its worker is told that nobody holds it
 module _ (h h' : Hands) (workers : ℕ) (hs : List Holder) (ts : List Thing) (naps : List Nap) (boxes : List Box) (t k : ℕ) (it it' : Holder) (r : Thing) where
@@ -27,16 +22,12 @@ module _ (h h' : Hands) (workers : ℕ) (hs : List Holder) (ts : List Thing) (na
       grind arith in
       let hs' : List Holder = slice_set hs t it' in
       let same : slice_set ts k r ≡ ts = set_found ts k r by.thing in
-      let now : slice_get hs' t ≡ Some it' = set_there hs t it' it by.there in
       let idle : it'.awaits ≡ None = ap (λ (x : Holder). x.awaits) by.drops ∙ by.idle in
       let going : it'.over ≡ false = ap (λ (x : Holder). x.over) by.drops ∙ by.going in
       let home : it'.home ≡ it.home = ap (λ (x : Holder). x.home) by.drops in
       let never : (s : Subject) → it.awaits ≡ Some s → ⊥ = λ s is. let no : None ≡ Some s = sym by.idle ∙ is in absurd (cc) in
       let me : (u : ℕ) → Some t ≡ Some u → t ≡ u = λ u is. same_Some t u is in
-      let its : (u : ℕ) (o : Holder) → Some t ≡ Some u → slice_get hs' u ≡ Some o → it' ≡ o = λ u o is at. same_Some it' o (sym now ∙ subst (λ m. slice_get hs' m ≡ Some o) (sym (me u is)) at) in
-      let more = one_more k it.held it'.held by.newest in
-      let least = hold_once k hs t it by.there in
-      let after = holdings_on hs t it it' by.there k in
+      let its : (u : ℕ) (o : Holder) → Some t ≡ Some u → slice_get hs' u ≡ Some o → it' ≡ o = λ u o is at. same_Some it' o (sym (set_there hs t it' it by.there) ∙ subst (λ m. slice_get hs' m ≡ Some o) (sym (me u is)) at) in
       subst (λ xs. IsHolding h' workers hs' xs naps boxes) same (holding_redone h h' workers hs hs' ts naps boxes (Some t) k r r (record {
         thing = by.thing;
         worker = refl;
@@ -46,7 +37,7 @@ module _ (h h' : Hands) (workers : ℕ) (hs : List Holder) (ts : List Thing) (na
         waiters_of = λ n. waiters_on hs t it it' by.there (subject.Timer n) (ap (λ (x : Holder). not x.over && is_awaited_by (subject.Timer n) x.awaits) by.drops);
         mail = λ m apart. by.mail m apart.cancel;
         made = by.made;
-        held = λ box at fact. told_on box.shut r.observed more least after fact by.told;
+        held = λ box at fact. told_on box.shut r.observed (one_more k it.held it'.held by.newest) (hold_once k hs t it by.there) (holdings_on hs t it it' by.there k) fact by.told;
         forwarded = λ box at fact. subst (λ a. IsForwarded box.shut r.forwarding (a + sum_by (λ b. mail_in (Message.Forward (subject.Request k)) b.messages) boxes)) (sym (by.mail (Message.Forward (subject.Request k)) (λ e. absurd (cc)))) fact;
         asked = λ sent. let a = old.asked k r by.thing sent in (a.0, a.1, homes_on hs t it it' by.there home a.0 a.2);
         sent = old.sent k r by.thing;
@@ -55,18 +46,10 @@ module _ (h h' : Hands) (workers : ℕ) (hs : List Holder) (ts : List Thing) (na
         sleeps_on = λ n u is. awaits_on hs t it it' by.there (subject.Timer n) u (λ same w. absurd (never (subject.Timer n) w)) is;
         holds = λ u o j x is at_u at_j.
             let be = its u o is at_u in
-            let at : slice_get it'.held j ≡ Some x = ap (λ (y : Holder). slice_get y.held j) be ∙ at_j in
-            let held = old.holds t it j x by.there (fewer_held k it.held it'.held by.newest j x at) in (
+            let held = old.holds t it j x by.there (fewer_held k it.held it'.held by.newest j x (ap (λ (y : Holder). slice_get y.held j) be ∙ at_j)) in (
               held.0,
               ap (λ xs. slice_get xs x.number) same ∙ held.1,
-              subst (λ v. HoldsRequest workers v o x held.0) (me u is) (subst (λ y. HoldsRequest workers t y x held.0) be
-                  (record {
-                    worker = held.2.worker;
-                    near = subst (λ q. MayHave workers q held.0.worker) (sym home) held.2.near;
-                    here = λ some. held.2.here (subst (λ q. IsSome q) home some);
-                    waiter = held.2.waiter;
-                    awaited = λ sent. absurd (never (subject.Request x.number) (held.2.awaited sent));
-                  })),
+              subst (λ v. HoldsRequest workers v o x held.0) (me u is) (subst (λ y. HoldsRequest workers t y x held.0) be (holds_on workers t it it' x held.0 home (never (subject.Request x.number)) held.2)),
             );
         holds_else = λ u o j x apart at_u at_j is held. held;
         awaiting = λ u o n is at_u awaits. let no : None ≡ Some (subject.Request n) = sym idle ∙ ap (λ (y : Holder). y.awaits) (its u o is at_u) ∙ awaits in absurd (cc);
@@ -79,8 +62,7 @@ module _ (h h' : Hands) (workers : ℕ) (hs : List Holder) (ts : List Thing) (na
               by_number u t
                   (λ other. record { it = o.1.it; there = set_elsewhere hs t u it' other ∙ o.1.there; owes = subst (λ xs. Owes i u o.1.it.awaits xs naps boxes) (sym same) o.1.owes })
                   (λ is.
-                  let same_it : it ≡ o.1.it = same_Some it o.1.it (sym by.there ∙ ap (slice_get hs) (sym is) ∙ o.1.there) in
-                  absurd (subst (λ a. Owes i u a ts naps boxes) by.idle (subst (λ (y : Holder). Owes i u y.awaits ts naps boxes) (sym same_it) o.1.owes))),
+                  absurd (subst (λ a. Owes i u a ts naps boxes) by.idle (subst (λ (y : Holder). Owes i u y.awaits ts naps boxes) (sym (same_Some it o.1.it (sym by.there ∙ ap (slice_get hs) (sym is) ∙ o.1.there))) o.1.owes))),
             );
       }) old)
 

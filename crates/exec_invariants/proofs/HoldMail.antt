@@ -1,8 +1,5 @@
 -- MESSAGES: which are the same, how few are in an inbox, and what one that is sent changes.
-use Rattle.std.proofs.{Common.{◌≡◌, ◌≢◌, ℕ, zero, suc, ◌+◌, ◌*◌, ◌≤◌, ◌==◌, true, cond, Contains, List, [], ◌∷◌, ◌++◌, count_by, length, sum_by, Some, refl, sym, ap, subst, ◌∙◌, arith, slice_get}, lemmas.{List.{Elements.Contains-append_right, Sums.{sum_by-cons, sum_by-append}}}}
-use Rattle.exec_words.specs.{Inbox.is_wake_root, declared.inbox.Message.{Message}}
-use Rattle.exec_parts.{specs.declared.parts.mail.Subject.Subject, proofs.Facts.{false_from_ne_true, same_Some}}
-use Rattle.exec_invariants.specs.Holding.{IsAbout, IsOf, Mail, Nap, Thing, mail_in, same_mail}
+use Rattle.exec_invariants.{proofs.Names.{◌≡◌, ◌≢◌, ℕ, zero, suc, ◌+◌, ◌*◌, ◌≤◌, ◌==◌, true, cond, Contains, List, [], ◌∷◌, ◌++◌, count_by, length, sum_by, Some, refl, sym, ap, subst, ◌∙◌, arith, slice_get, Contains-append_right, sum_by-cons, sum_by-append, is_wake_root, Message, Subject, false_from_ne_true, same_Some}, specs.Holding.{IsAbout, IsOf, Mail, Nap, Thing, mail_in, same_mail}}
 
 -- WHICH ARE THE SAME
 
@@ -100,14 +97,11 @@ module _ (workers j : ℕ) (ts : List Thing) (naps : List Nap) where
   within_all : (ms : List Mail) → ((m : Mail) → Contains ms m → IsAbout workers j m ts naps) → length ms ≤ all_of ms
   within_all [] about = omega arith
   within_all (m ∷ ms) about =
-      let rest = within_all ms (λ x has. about x (later_of m x ms has)) in
-      let one = one_of_all m (about m (first_of m ms)) in
-      let roots = roots_first m ms in
       let a = tally_both (forwards (m ∷ [])) (forwards ms) (forwards (m ∷ ms)) 0 ts (λ k. mail_first (Message.Forward (Subject.Request k)) m ms) in
       let b = tally_both (cancels (m ∷ [])) (cancels ms) (cancels (m ∷ ms)) 0 ts (λ k. mail_first (Message.Cancel (Subject.Request k)) m ms) in
       let c = tally_both (ends (m ∷ [])) (ends ms) (ends (m ∷ ms)) 0 naps (λ n. mail_first (Message.Forward (Subject.Timer n)) m ms) in
       let d = tally_both (removes (m ∷ [])) (removes ms) (removes (m ∷ ms)) 0 naps (λ n. mail_first (Message.Cancel (Subject.Timer n)) m ms) in
-      omega (arith, rest, one, roots, a, b, c, d)
+      omega (arith, within_all ms (λ x has. about x (later_of m x ms has)), one_of_all m (about m (first_of m ms)), roots_first m ms, a, b, c, d)
 
   -- one at most of each that the worker has, and none of another's
   by_owner : (n i : ℕ) → (i ≡ j → n ≤ 1) → (i ≢ j → n ≡ 0) → n ≤ cond (i == j) 1 0
@@ -124,5 +118,4 @@ module _ (workers j : ℕ) (ts : List Thing) (naps : List Nap) where
       let b = tally_within (cancels ms) (λ (r : Thing). cond (r.worker == j) 1 0) ts (λ k r at. by_owner (cancels ms k) r.worker (λ own. (once k r at own).1) (λ other. mail_none (Message.Cancel (Subject.Request k)) ms (λ has. not_mine k r at other (about (Message.Cancel (Subject.Request k)) has)))) in
       let c = tally_within (ends ms) (λ (z : Nap). cond (z.worker == j) 1 0) naps (λ n z at. by_owner (ends ms n) z.worker (λ own. (once_too n z at own).0) (λ other. mail_none (Message.Forward (Subject.Timer n)) ms (λ has. not_my_nap n z at other (about (Message.Forward (Subject.Timer n)) has)))) in
       let d = tally_within (removes ms) (λ (z : Nap). cond (z.worker == j) 1 0) naps (λ n z at. by_owner (removes ms n) z.worker (λ own. (once_too n z at own).1) (λ other. mail_none (Message.Cancel (Subject.Timer n)) ms (λ has. not_my_nap n z at other (about (Message.Cancel (Subject.Timer n)) has)))) in
-      let all = within_all ms about in
-      omega (arith, all, a, b, c, d)
+      omega (arith, within_all ms about, a, b, c, d)

@@ -1,9 +1,5 @@
 -- A MESSAGE IS SENT: from the hands of a worker it comes into an inbox, which has a place for it, or is lost where that takes none.
-use Rattle.std.proofs.{Common.{◌≡◌, inl, inr, ℕ, zero, suc, ◌+◌, ◌*◌, ◌<◌, ◌≤◌, ◌==◌, Bool, true, false, cond, Contains, List, [], ◌∷◌, ◌++◌, count_by, length, Option, Some, refl, sym, ap, subst, ◌∙◌, arith, slice_get, slice_set}, lemmas.{Bool.false≢true, List.{length-set, Elements.Contains-append_cases, Sums.sum_by-cons}}}
-use Rattle.exec_words.specs.{Inbox.is_wake_root, declared.inbox.Message.{Message}}
-use Rattle.exec_machine.specs.declared.state.Forwarding.{Forwarding}
-use Rattle.exec_parts.{specs.declared.parts.mail.Subject.Subject, proofs.Facts.{by_number, same_Some, set_elsewhere, set_there}}
-use Rattle.exec_invariants.{specs.{Places.one_if, Holding.{Box, Hands, Holder, IsAbout, IsForwarded, IsHeldBy, IsHolding, Mail, Nap, Owes, Thing, holdings, mail_in, same_mail, under_way, waiters, HasPlace, IsOwed}}, proofs.{HoldMail.{few_mail, is_never, mail_first, mail_is, mail_last, mail_self, once_or_never, sum_least}, HoldRedo.{sum_set, set_back}}}
+use Rattle.exec_invariants.{proofs.{Names.{◌≡◌, inl, inr, ℕ, zero, suc, ◌+◌, ◌*◌, ◌<◌, ◌≤◌, ◌==◌, Bool, true, false, cond, Contains, List, [], ◌∷◌, ◌++◌, count_by, length, Option, Some, refl, sym, ap, subst, ◌∙◌, arith, slice_get, slice_set, false≢true, length-set, Contains-append_cases, sum_by-cons, is_wake_root, Message, Forwarding, Subject, by_number, same_Some, set_elsewhere, set_there}, HoldMail.{few_mail, is_never, mail_first, mail_is, mail_last, mail_self, once_or_never, sum_least}, HoldRedo.{sum_set, set_back}}, specs.{Places.one_if, Holding.{Box, Hands, Holder, IsAbout, IsForwarded, IsHeldBy, IsHolding, Mail, Nap, Owes, Thing, holdings, mail_in, same_mail, under_way, waiters, HasPlace, IsOwed}}}
 
 -- MESSAGES MOVE between hands and inboxes, and each is under way as before, unless its inbox takes none
 
@@ -131,10 +127,7 @@ module _ (h : Hands) (workers : ℕ) (hs : List Holder) (ts : List Thing) (naps 
       (at_most (Message.Forward (Subject.Timer n)) (within (Message.Forward (Subject.Timer n)) forward), at_most (Message.Cancel (Subject.Timer n)) (within (Message.Cancel (Subject.Timer n)) (omega (arith, go)))) in
       let all : (x : Mail) → Contains (m ∷ box.messages) x → IsAbout workers j x ts naps = grind arith in
       let place = old.room j box at in
-      let most = place.places open_box in
-      let few = few_mail workers j ts naps (m ∷ box.messages) all once once_too in
-      let roots : count_by is_wake_root (m ∷ box.messages) ≡ 0 + count_by is_wake_root box.messages = not_root m other in
-      omega (arith, few, most, place.made, roots)
+      omega (arith, few_mail workers j ts naps (m ∷ box.messages) all once once_too, place.places open_box, place.made, not_root m other)
     where
       -- the new one once, and each other as often as it is under way
       at_most : (x : Mail) → mail_in x box.messages ≤ 1 → mail_in x (m ∷ box.messages) ≤ 1
@@ -142,11 +135,6 @@ module _ (h : Hands) (workers : ℕ) (hs : List Holder) (ts : List Thing) (naps 
         where
           by : (b : Bool) → same_mail x m ≡ b → mail_in x (m ∷ box.messages) ≤ 1
           by true is =
-              let none : mail_in x box.messages ≡ 0 = ap (λ y. mail_in y box.messages) (mail_is x m is) ∙ fresh in
-              let first = mail_first x m box.messages in
-              let one = once_or_never x m in
-              omega (arith, none, first, one)
+              omega (arith, ap (λ y. mail_in y box.messages) (mail_is x m is) ∙ fresh, mail_first x m box.messages, once_or_never x m)
           by false is =
-              let first = mail_first x m box.messages in
-              let none : mail_in x (m ∷ []) ≡ 0 = is_never x m (λ same. false≢true (sym is ∙ ap (same_mail x) (sym same) ∙ mail_self x)) in
-              omega (arith, first, none, most)
+              omega (arith, mail_first x m box.messages, is_never x m (λ same. false≢true (sym is ∙ ap (same_mail x) (sym same) ∙ mail_self x)), most)

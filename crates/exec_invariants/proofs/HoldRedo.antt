@@ -1,10 +1,5 @@
 -- WHAT TASKS HOLD, where one request changes, and one task at most that holds or waits for it.
-use Rattle.std.proofs.{Common.{◌≡◌, ◌≢◌, ℕ, ◌+◌, ◌<◌, ◌≤◌, ◌==◌, Bool, true, false, List, count_by, length, sum_by, Option, Some, None, IsSome, sym, ap, subst, ◌∙◌, arith, slice_get, slice_set}, lemmas.{List.Sums.sum_by-set, Option.{get_or_from_slice_get, slice_get_within}}}
-use Rattle.exec_machine.specs.{declared.state.Forwarding.TheVariants.Applied, Tests.is_unsent}
-use Rattle.exec_words.specs.declared.inbox.Message.{Message}
-use Rattle.exec_parts.{specs.declared.parts.{held.Held.Held, mail.Subject.Subject}, proofs.Facts.{by_number, same_Some, set_elsewhere, set_there}}
-use Rattle.exec_invariants.specs.Holding.{Awaits, AwaitsNap, AwaitsThing, Box, Hands, Holder, HoldsRequest, IsAbout, IsDue, IsForwarded, IsHeldBy, IsHolding, IsOf, IsOrdinary, IsOwed, Mail, Nap, Thing, holdings, mail_in, under_way, waiters}
-use Rattle.exec_parts.specs.declared.parts.mail.Subject.TheVariants as subject
+use Rattle.exec_invariants.{proofs.Names.{◌≡◌, ◌≢◌, ℕ, ◌+◌, ◌<◌, ◌≤◌, ◌==◌, Bool, true, false, List, count_by, length, sum_by, Option, Some, None, IsSome, sym, ap, subst, ◌∙◌, arith, slice_get, slice_set, sum_by-set, get_or_from_slice_get, slice_get_within, Applied, is_unsent, Message, Held, Subject, by_number, same_Some, set_elsewhere, set_there, subject}, specs.Holding.{Awaits, AwaitsNap, AwaitsThing, Box, Hands, Holder, HoldsRequest, IsAbout, IsDue, IsForwarded, IsHeldBy, IsHolding, IsOf, IsOrdinary, IsOwed, Mail, Nap, Thing, holdings, mail_in, under_way, waiters}}
 
 -- by whether it is this one
 pub by_one : {P : Type 0} (o : Option ℕ) (u : ℕ) → (o ≡ Some u → P) → ((o ≡ Some u → ⊥) → P) → P

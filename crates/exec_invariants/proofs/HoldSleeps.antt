@@ -1,10 +1,5 @@
 -- WHAT TASKS HOLD, where a sleeper changes and no task: it is waited for elsewhere, fires, is removed, or pays a wake.
-use Rattle.std.{proofs.Common.{◌≡◌, ◌≢◌, ◌⊎◌, ⊎_elim, ℕ, ◌+◌, ◌<◌, ◌≤◌, ◌==◌, ◌||◌, true, false, List, count_by, length, sum_by, Option, Some, IsSome, sym, ap, subst, ◌∙◌, slice_get, slice_set, arith}, specs.Prelude.Contains}
-use Rattle.exec_machine.specs.{declared.state.Forwarding.TheVariants.Applied, Tests.is_unsent}
-use Rattle.exec_words.specs.declared.inbox.Message.{Message}
-use Rattle.exec_parts.{specs.declared.parts.mail.Subject.Subject, proofs.Facts.{by_number, same_Some, set_elsewhere, set_there}}
-use Rattle.exec_invariants.{specs.Holding.{Awaits, AwaitsNap, Box, Hands, Holder, IsAbout, IsForwarded, IsHeldBy, IsHolding, IsOf, IsOrdinary, IsOwed, Mail, Nap, NapOwes, Owes, Thing, holdings, mail_in, under_way, waiters, HasPlace}, proofs.HoldRedo.count_set}
-use Rattle.exec_parts.specs.declared.parts.mail.Subject.TheVariants as subject
+use Rattle.exec_invariants.{proofs.{Names.{◌≡◌, ◌≢◌, ◌⊎◌, ⊎_elim, ℕ, ◌+◌, ◌<◌, ◌≤◌, ◌==◌, ◌||◌, true, false, List, count_by, length, sum_by, Option, Some, IsSome, sym, ap, subst, ◌∙◌, slice_get, slice_set, arith, Contains, Applied, is_unsent, Message, Subject, by_number, same_Some, set_elsewhere, set_there, subject}, HoldRedo.count_set}, specs.Holding.{Awaits, AwaitsNap, Box, Hands, Holder, IsAbout, IsForwarded, IsHeldBy, IsHolding, IsOf, IsOrdinary, IsOwed, Mail, Nap, NapOwes, Owes, Thing, holdings, mail_in, under_way, waiters, HasPlace}}
 
 -- a message that isn't about sleeper n
 pub record IsPast (n : ℕ) (m : Mail) : Type 0 where
@@ -43,7 +38,6 @@ module _ (h h' : Hands) (workers : ℕ) (hs : List Holder) (ts : List Thing) (na
   pub nap_redone : RedoesNap → IsHolding h workers hs ts naps boxes → IsHolding h' workers hs ts (slice_set naps n z') boxes
   nap_redone by old =
       let owes_on : RedoesNap → (i t : ℕ) → 0 < h'.wakes i t → (a : Option Subject) → Owes i t a ts naps boxes → Owes i t a ts (slice_set naps n z') boxes = grind (arith, by_number, set_elsewhere, same_Some, set_there) in
-      let naps' : List Nap = slice_set naps n z' in
       let way : (m : Mail) → IsPast n m → under_way h' m boxes ≡ under_way h m boxes = λ m past. ap (λ a. a + sum_by (λ box. mail_in m box.messages) boxes) (by.mail m past) in
       let past_cancel : (k : ℕ) → IsPast n (Message.Cancel (subject.Request k)) = λ k. record { forward = λ is. absurd (cc); cancel = λ is. absurd (cc) } in
       let past_forward : (k : ℕ) → IsPast n (Message.Forward (subject.Request k)) = λ k. record { forward = λ is. absurd (cc); cancel = λ is. absurd (cc) } in
@@ -58,11 +52,10 @@ module _ (h h' : Hands) (workers : ℕ) (hs : List Holder) (ts : List Thing) (na
       by_number m n
       (λ apart. (was.0, set_elsewhere naps n m z' apart ∙ was.1, was.2))
       (λ same.
-      let is : was.0 ≡ z = same_Some was.0 z (sym was.1 ∙ ap (slice_get naps) same ∙ by.nap) in
-      let a : AwaitsNap workers t it z = subst (AwaitsNap workers t it) is was.2 in
+      let a : AwaitsNap workers t it z = subst (AwaitsNap workers t it) (same_Some was.0 z (sym was.1 ∙ ap (slice_get naps) same ∙ by.nap)) was.2 in
       let mine : it.awaits ≡ Some (subject.Timer n) = awaits ∙ ap (λ k. Some (subject.Timer k)) same in (
         z',
-        subst (λ k. slice_get naps' k ≡ Some z') (sym same) (set_there naps n z' z by.nap),
+        subst (λ k. slice_get (slice_set naps n z') k ≡ Some z') (sym same) (set_there naps n z' z by.nap),
         grind (arith, by.task, a.task, workers, it.home, by.worker, a.near, by.here, it, at, mine, by.kept, a.kept),
       )) in
       let sleeps : (n0 : ℕ) (z : Nap) → slice_get (slice_set naps n z') n0 ≡ Some z → z.fired ≡ false → z.removed ≡ false → Awaits (subject.Timer n0) z.task hs =

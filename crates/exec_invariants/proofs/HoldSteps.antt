@@ -1,13 +1,5 @@
 -- WHAT TASKS HOLD, where a task takes an output, waits for a request, or lets go of one.
-use Rattle.std.proofs.{Common.{◌≡◌, ◌≢◌, ◌⊎◌, inl, inr, ⊎_elim, ℕ, zero, suc, ◌+◌, ◌<◌, ◌≤◌, ◌==◌, ◌&&◌, Bool, true, false, not, cond, List, [], ◌∷◌, ◌++◌, count_by, Option, Some, None, IsSome, is_some, Result, refl, sym, ap, subst, ◌∙◌, arith, slice_get, slice_set}, lemmas.{Bool.{false≢true, eq-eqb}, List.Sums.{sum_by-cons, sum_by-append}}}
-use Rattle.exec_base.specs.declared.{error.Error.Error, one_shot.OneShotState.{OneShotState}}
-use Rattle.exec_outcomes.specs.declared.outcome.Outcome.{Outcome}
-use Rattle.exec_request.specs.declared.output.RequestOutput.{RequestOutput}
-use Rattle.exec_machine.specs.Tests.{is_unsent}
-use Rattle.exec_words.specs.declared.inbox.Message.{Message}
-use Rattle.exec_parts.{specs.declared.parts.{held.Held.Held, mail.Subject.Subject}, proofs.Facts.{by_number, not_same, same_Some, set_elsewhere, set_there}}
-use Rattle.exec_invariants.{specs.Holding.{Awaits, Box, Hands, HasAnswer, Holder, HoldsRequest, IsHeldBy, IsHolding, IsOrdinary, IsOwed, MayHave, Nap, Owes, Thing, ThingOwes, holdings, is_awaited_by, under_way, waiters}, proofs.HoldRedo.{count_set, holding_redone, sum_set}}
-use Rattle.exec_parts.specs.declared.parts.mail.Subject.TheVariants as subject
+use Rattle.exec_invariants.{proofs.{Names.{◌≡◌, ◌≢◌, ◌⊎◌, inl, inr, ⊎_elim, ℕ, zero, suc, ◌+◌, ◌<◌, ◌≤◌, ◌==◌, ◌&&◌, Bool, true, false, not, cond, List, [], ◌∷◌, ◌++◌, count_by, Option, Some, None, IsSome, is_some, Result, refl, sym, ap, subst, ◌∙◌, arith, slice_get, slice_set, false≢true, eq-eqb, sum_by-cons, sum_by-append, Error, OneShotState, Outcome, RequestOutput, is_unsent, Message, Held, Subject, by_number, not_same, same_Some, set_elsewhere, set_there, subject}, HoldRedo.{count_set, holding_redone, sum_set}}, specs.Holding.{Awaits, Box, Hands, HasAnswer, Holder, HoldsRequest, IsHeldBy, IsHolding, IsOrdinary, IsOwed, MayHave, Nap, Owes, Thing, ThingOwes, holdings, is_awaited_by, under_way, waiters}}
 
 -- how often a list names request k
 abbrev pub held_in : ℕ → List Held → ℕ
@@ -30,31 +22,26 @@ held_there k held j x there is = counted held j there
     counted [] j there = absurd (cc)
     counted (y ∷ ys) zero there =
         let is_x : y ≡ x = cc in
-        let all : held_in k (y ∷ ys) ≡ weigh y + held_in k ys = sum_by-cons weigh y ys in
-        let first : weigh y ≡ one = ap weigh is_x ∙ weighs in
-        omega (arith, all, first)
+        omega (arith, sum_by-cons weigh y ys, ap weigh is_x ∙ weighs)
     counted (y ∷ ys) (suc j) there =
-        let all : held_in k (y ∷ ys) ≡ weigh y + held_in k ys = sum_by-cons weigh y ys in
-        let rest = counted ys j there in
-        omega (arith, all, rest)
+        omega (arith, sum_by-cons weigh y ys, counted ys j there)
 
 -- two tasks that hold it hold it twice
 pub hold_twice : (k : ℕ) (hs : List Holder) (t u : ℕ) (it o : Holder) → t ≢ u → slice_get hs t ≡ Some it → slice_get hs u ≡ Some o → held_in k it.held + held_in k o.held ≤ holdings k hs
 hold_twice k hs t u it o apart at_t at_u =
     let none : Holder = record it { held = [] } in
     let f : Holder → ℕ = λ x. held_in k x.held in
-    let once : holdings k (slice_set hs t none) + held_in k it.held ≡ holdings k hs + 0 = sum_set f hs t it none at_t in
-    let then : slice_get (slice_set hs t none) u ≡ Some o = set_elsewhere hs t u none (λ e. apart (sym e)) ∙ at_u in
-    let again : holdings k (slice_set (slice_set hs t none) u (record o { held = [] })) + held_in k o.held ≡ holdings k (slice_set hs t none) + 0 = sum_set f (slice_set hs t none) u o (record o { held = [] }) then in
-    omega (arith, once, again)
+    omega (arith, sum_set f hs t it none at_t, sum_set f (slice_set hs t none) u o (record o { held = [] }) (set_elsewhere hs t u none (λ e. apart (sym e)) ∙ at_u))
 
 pub hold_once : (k : ℕ) (hs : List Holder) (t : ℕ) (it : Holder) → slice_get hs t ≡ Some it → held_in k it.held ≤ holdings k hs
 hold_once k hs t it at_t =
     let none : Holder = record it { held = [] } in
-    let once : holdings k (slice_set hs t none) + held_in k it.held ≡ holdings k hs + 0 = sum_set (λ (x : Holder). held_in k x.held) hs t it none at_t in
-    omega (arith, once)
+    omega (arith, sum_set (λ (x : Holder). held_in k x.held) hs t it none at_t)
 
--- A TASK BECAME ANOTHER, of the same home
+-- A TASK BECAME ANOTHER, of the same home: it holds what it held, which it didn't wait for
+pub holds_on : (workers t : ℕ) (it it' : Holder) (x : Held) (r : Thing) → it'.home ≡ it.home → (it.awaits ≡ Some (subject.Request x.number) → ⊥) → HoldsRequest workers t it x r → HoldsRequest workers t it' x r
+holds_on workers t it it' x r home unawaited h = record { worker = h.worker; near = subst (λ q. MayHave workers q r.worker) (sym home) h.near; here = λ some. h.here (subst (λ q. IsSome q) home some); waiter = h.waiter; awaited = λ sent. absurd (unawaited (h.awaited sent)) }
+
 module _ (hs : List Holder) (t : ℕ) (it it' : Holder) (there : slice_get hs t ≡ Some it) where
   pub homes_on : it'.home ≡ it.home → (u : ℕ) → IsOrdinary u hs → IsOrdinary u (slice_set hs t it')
   homes_on = grind (arith, by_number, set_elsewhere, same_Some, set_there)
@@ -118,10 +105,7 @@ module _ (h : Hands) (workers : ℕ) (hs : List Holder) (ts : List Thing) (naps 
   held_one there thing newest box seat old =
       let by_shut : (shut held : Bool) → r.observed ≡ held → held_in k it.held ≡ held_in k it'.held + 1 → held_in k it.held ≤ holdings k hs → holdings k (slice_set hs t it') + held_in k it.held ≡ holdings k hs + held_in k it'.held → IsHeldBy shut held (holdings k hs) (under_way h (Message.Cancel (subject.Request k)) boxes) → HeldOne =
       grind arith in
-      let more = one_more k it.held it'.held newest in
-      let least = hold_once k hs t it there in
-      let after = holdings_on hs t it it' there k in
-      by_shut box.shut r.observed refl more least after (old.held k r box thing seat)
+      by_shut box.shut r.observed refl (one_more k it.held it'.held newest) (hold_once k hs t it there) (holdings_on hs t it it' there k) (old.held k r box thing seat)
 
   pub thing_taken : TakesThing → IsHolding h workers hs ts naps boxes → IsHolding h workers (slice_set hs t it') (slice_set ts k (record r { observed = false; ended = e })) naps boxes
   thing_taken by old =
@@ -135,14 +119,13 @@ module _ (h : Hands) (workers : ℕ) (hs : List Holder) (ts : List Thing) (naps 
       let r' : Thing = record r { observed = false; ended = e } in
       let hs' : List Holder = slice_set hs t it' in
       let one = held_one by.there by.thing by.newest by.box by.seat old in
-      let now : slice_get hs' t ≡ Some it' = set_there hs t it' it by.there in
       let nothing : it'.awaits ≡ None = ap (λ (x : Holder). x.awaits) by.took in
       let going : it'.over ≡ false = ap (λ (x : Holder). x.over) by.took ∙ by.going in
       let home : it'.home ≡ it.home = ap (λ (x : Holder). x.home) by.took in
       let waits_none : (s : Subject) → (s ≡ subject.Request k → ⊥) → it.awaits ≡ Some s → ⊥ = λ s apart is.
       ⊎_elim (λ none. let no : None ≡ Some s = sym none ∙ is in absurd (cc)) (λ its. apart (same_Some s (subject.Request k) (sym is ∙ its))) by.awaited in
       let me : (u : ℕ) → Some t ≡ Some u → t ≡ u = λ u is. same_Some t u is in
-      let its : (u : ℕ) (o : Holder) → Some t ≡ Some u → slice_get hs' u ≡ Some o → it' ≡ o = λ u o is at. same_Some it' o (sym now ∙ subst (λ m. slice_get hs' m ≡ Some o) (sym (me u is)) at) in
+      let its : (u : ℕ) (o : Holder) → Some t ≡ Some u → slice_get hs' u ≡ Some o → it' ≡ o = λ u o is at. same_Some it' o (sym (set_there hs t it' it by.there) ∙ subst (λ m. slice_get hs' m ≡ Some o) (sym (me u is)) at) in
       holding_redone h h workers hs hs' ts naps boxes (Some t) k r r' (record {
         thing = by.thing;
         worker = refl;
@@ -166,14 +149,7 @@ module _ (h : Hands) (workers : ℕ) (hs : List Holder) (ts : List Thing) (naps 
             let other : x.number ≢ k = λ same. let some = held_there k it'.held j x at same in let none = one.left in omega (arith, some, none) in (
               held.0,
               set_elsewhere ts k x.number r' other ∙ held.1,
-              subst (λ v. HoldsRequest workers v o x held.0) (me u is) (subst (λ y. HoldsRequest workers t y x held.0) be
-                  (record {
-                    worker = held.2.worker;
-                    near = subst (λ q. MayHave workers q held.0.worker) (sym home) held.2.near;
-                    here = λ some. held.2.here (subst (λ q. IsSome q) home some);
-                    waiter = held.2.waiter;
-                    awaited = λ sent. absurd (waits_none (subject.Request x.number) (λ e. other (same_request x.number k e)) (held.2.awaited sent));
-                  })),
+              subst (λ v. HoldsRequest workers v o x held.0) (me u is) (subst (λ y. HoldsRequest workers t y x held.0) be (holds_on workers t it it' x held.0 home (waits_none (subject.Request x.number) (λ e. other (same_request x.number k e))) held.2)),
             );
         holds_else = λ u o j x apart at_u at_j is held. record { worker = held.worker; near = held.near; here = held.here; waiter = held.waiter; awaited = held.awaited };
         awaiting = λ u o n is at_u awaits. let no : None ≡ Some (subject.Request n) = sym nothing ∙ ap (λ (y : Holder). y.awaits) (its u o is at_u) ∙ awaits in absurd (cc);
@@ -189,10 +165,6 @@ module _ (h : Hands) (workers : ℕ) (hs : List Holder) (ts : List Thing) (naps 
             );
       }) old
     where
-      by_sent : TakesThing → (b : Bool) → is_unsent r.forwarding ≡ b → 0 < h.wakes r.worker t → r.sent ≡ false → ⊥
-      by_sent by true is some unsent = let none = by.unowed is in omega (arith, none, some)
-      by_sent by false is some unsent = false≢true (sym unsent ∙ by.sent is)
-
       unpaid : TakesThing → (i : ℕ) → 0 < h.wakes i t → IsOwed i t hs ts naps boxes → ⊥
       unpaid = grind arith
 
@@ -203,8 +175,7 @@ module _ (h : Hands) (workers : ℕ) (hs : List Holder) (ts : List Thing) (naps 
           by_number n k
           (λ apart. (owes.0, set_elsewhere ts k n (record r { observed = false; ended = e }) apart ∙ owes.1, owes.2))
           (λ same.
-          let is : owes.0 ≡ r = same_Some owes.0 r (sym owes.1 ∙ ap (slice_get ts) same ∙ by.thing) in
-          let it_owes : ThingOwes i u r boxes = subst (λ x. ThingOwes i u x boxes) is owes.2 in (
+          let it_owes : ThingOwes i u r boxes = subst (λ x. ThingOwes i u x boxes) (same_Some owes.0 r (sym owes.1 ∙ ap (slice_get ts) same ∙ by.thing)) owes.2 in (
             record r { observed = false; ended = e },
             subst (λ m. slice_get (slice_set ts k (record r { observed = false; ended = e })) m ≡ Some (record r { observed = false; ended = e })) (sym same) (set_there ts k (record r { observed = false; ended = e }) r by.thing),
             record { worker = it_owes.worker; waiter = it_owes.waiter; unpaid = it_owes.unpaid; unsent = it_owes.unsent; over = ⊎_elim (λ over. inl (ap is_some (by.ended over) ∙ over)) (λ lost. inr (refl, lost.1)) it_owes.over },

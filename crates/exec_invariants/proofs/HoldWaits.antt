@@ -1,11 +1,5 @@
 -- WHAT TASKS HOLD, where a task waits for a request of its worker's, or of another that is asked for its end.
-use Rattle.std.proofs.{Common.{◌≡◌, ◌≢◌, ◌⊎◌, ⊎_elim, ℕ, zero, suc, ◌+◌, ◌-◌, ◌<◌, ◌≤◌, ◌&&◌, Bool, true, false, not, List, [], ◌∷◌, length, sum_by, Option, Some, None, IsSome, refl, sym, ap, subst, ◌∙◌, arith, slice_get, slice_set}, lemmas.Bool.false≢true}
-use Rattle.exec_base.specs.declared.one_shot.OneShotState.TheVariants.{Open}
-use Rattle.exec_machine.specs.{declared.state.Forwarding.Forwarding, Tests.is_unsent}
-use Rattle.exec_words.specs.declared.inbox.Message.{Message}
-use Rattle.exec_parts.{specs.{declared.parts.{held.Held.Held, mail.Subject.Subject}, Records.numbers_held}, proofs.Facts.{by_number, same_Some, set_elsewhere, set_there}}
-use Rattle.exec_invariants.{specs.Holding.{Awaits, AwaitsThing, Box, Hands, HasAnswer, Holder, HoldsRequest, IsAbout, IsForwarded, IsHeldBy, IsHolding, Mail, MayHave, Nap, Owes, Thing, ThingOwes, holdings, is_awaited_by, mail_in, under_way}, proofs.{HoldRedo.holding_redone, HoldSteps.{awaits_on, held_in, held_there, hold_twice, holdings_on, homes_on, waiters_on}}}
-use Rattle.exec_parts.specs.declared.parts.mail.Subject.TheVariants as subject
+use Rattle.exec_invariants.{proofs.{Names.{◌≡◌, ◌≢◌, ◌⊎◌, ⊎_elim, ℕ, zero, suc, ◌+◌, ◌-◌, ◌<◌, ◌≤◌, ◌&&◌, Bool, true, false, not, List, [], ◌∷◌, length, sum_by, Option, Some, None, IsSome, refl, sym, ap, subst, ◌∙◌, arith, slice_get, slice_set, false≢true, Unanswered as Open, Forwarding, is_unsent, Message, Held, Subject, numbers_held, by_number, same_Some, set_elsewhere, set_there, subject, false_from_ne_true}, HoldRedo.holding_redone, HoldSteps.{awaits_on, held_in, held_there, hold_twice, holdings_on, homes_on, waiters_on, holds_on}}, specs.Holding.{Awaits, AwaitsThing, Box, Hands, HasAnswer, Holder, HoldsRequest, IsAbout, IsForwarded, IsHeldBy, IsHolding, Mail, MayHave, Nap, Owes, Thing, ThingOwes, holdings, is_awaited_by, mail_in, under_way}}
 
 -- A TASK WAITS for request k, the newest that it holds
 
@@ -47,16 +41,12 @@ module _ (h h' : Hands) (workers : ℕ) (hs : List Holder) (ts : List Thing) (na
       let by_shut : (shut held : Bool) → 2 ≤ holdings k hs → IsHeldBy shut held (holdings k hs) (under_way h (Message.Cancel (subject.Request k)) boxes) → ⊥ = grind arith in
       let x = held_number it.held j k at in
       let held = old.holds t it j x.0 there x.1 in
-      let is : held.0 ≡ r = same_Some held.0 r (sym held.1 ∙ ap (slice_get ts) x.2 ∙ thing) in
-      let mine = held_there k it.held j x.0 x.1 x.2 in
       record {
         x = x.0;
         number = x.2;
-        holds = subst (HoldsRequest workers t it x.0) is held.2;
+        holds = subst (HoldsRequest workers t it x.0) (same_Some held.0 r (sym held.1 ∙ ap (slice_get ts) x.2 ∙ thing)) held.2;
         alone = λ u o l y apart at_u at_l same.
-            let theirs = held_there k o.held l y at_l same in
-            let both = hold_twice k hs t u it o apart there at_u in
-            by_shut box.shut r.observed (omega (arith, mine, theirs, both)) (old.held k r box thing seat);
+            by_shut box.shut r.observed (omega (arith, held_there k it.held j x.0 x.1 x.2, held_there k o.held l y at_l same, hold_twice k hs t u it o apart there at_u)) (old.held k r box thing seat);
       }
 
   pub thing_awaited : WaitsFor → IsHolding h workers hs ts naps boxes → IsHolding h' workers (slice_set hs t it') (slice_set ts k (record r { waiter = Some t; forwarding = f })) naps boxes
@@ -92,7 +82,7 @@ module _ (h h' : Hands) (workers : ℕ) (hs : List Holder) (ts : List Thing) (na
       let me : (u : ℕ) → Some t ≡ Some u → t ≡ u = λ u is. same_Some t u is in
       let its : (u : ℕ) (o : Holder) → Some t ≡ Some u → slice_get hs' u ≡ Some o → it' ≡ o = λ u o is at. same_Some it' o (sym now ∙ subst (λ m. slice_get hs' m ≡ Some o) (sym (me u is)) at) in
       let near : MayHave workers it'.home r.worker = subst (λ q. MayHave workers q r.worker) (sym home) mine.holds.near in
-      let silent : r.sent ≡ false = never_sent (r.sent) refl by old in
+      let silent : r.sent ≡ false = false_from_ne_true r.sent (λ is. false≢true (sym (ap is_unsent (old.sent k r by.thing is)) ∙ by.unsent)) in
       holding_redone h h' workers hs hs' ts naps boxes (Some t) k r r' (record {
         thing = by.thing;
         worker = refl;
@@ -112,20 +102,12 @@ module _ (h h' : Hands) (workers : ℕ) (hs : List Holder) (ts : List Thing) (na
         sleeps_on = λ n u is. awaits_on hs t it it' by.there (subject.Timer n) u (λ same w. absurd (waits_none (subject.Timer n) (λ e. absurd (cc)) w)) is;
         holds = λ u o j x is at_u at_j.
             let be = its u o is at_u in
-            let at : slice_get it.held j ≡ Some x = ap (λ ys. slice_get ys j) (sym held_same) ∙ ap (λ (y : Holder). slice_get y.held j) be ∙ at_j in
-            let held = old.holds t it j x by.there at in
+            let held = old.holds t it j x by.there (ap (λ ys. slice_get ys j) (sym held_same) ∙ ap (λ (y : Holder). slice_get y.held j) be ∙ at_j) in
             by_number x.number k
             (λ other. (
               held.0,
               set_elsewhere ts k x.number r' other ∙ held.1,
-              subst (λ v. HoldsRequest workers v o x held.0) (me u is) (subst (λ y. HoldsRequest workers t y x held.0) be
-                  (record {
-                    worker = held.2.worker;
-                    near = subst (λ q. MayHave workers q held.0.worker) (sym home) held.2.near;
-                    here = λ some. held.2.here (subst (λ q. IsSome q) home some);
-                    waiter = held.2.waiter;
-                    awaited = λ sent. absurd (waits_none (subject.Request x.number) (λ e. other (same_request x.number k e)) (held.2.awaited sent));
-                  })),
+              subst (λ v. HoldsRequest workers v o x held.0) (me u is) (subst (λ y. HoldsRequest workers t y x held.0) be (holds_on workers t it it' x held.0 home (waits_none (subject.Request x.number) (λ e. other (same_request x.number k e))) held.2)),
             ))
             (λ same.
             let is_r : held.0 ≡ r = same_Some held.0 r (sym held.1 ∙ ap (slice_get ts) same ∙ by.thing) in (
@@ -165,12 +147,11 @@ module _ (h h' : Hands) (workers : ℕ) (hs : List Holder) (ts : List Thing) (na
               by_number u t
                   (λ other. record { it = o.1.it; there = set_elsewhere hs t u it' other ∙ o.1.there; owes = owes_on by i u o.1.it.awaits (λ w. other (mine.holds.waiter u w)) o.1.owes })
                   (λ same.
-                  let same_it : it ≡ o.1.it = same_Some it o.1.it (sym by.there ∙ ap (slice_get hs) (sym same) ∙ o.1.there) in
                   record {
                     it = it';
                     there = subst (λ m. slice_get hs' m ≡ Some it') (sym same) now;
                     owes = subst (λ a. Owes i u a (slice_set ts k r') naps boxes) (sym awaits)
-                        (owes_mine by i u same (subst (λ (y : Holder). Owes i u y.awaits ts naps boxes) (sym same_it) o.1.owes));
+                        (owes_mine by i u same (subst (λ (y : Holder). Owes i u y.awaits ts naps boxes) (sym (same_Some it o.1.it (sym by.there ∙ ap (slice_get hs) (sym same) ∙ o.1.there))) o.1.owes));
                   }),
             );
       }) old
@@ -178,7 +159,3 @@ module _ (h h' : Hands) (workers : ℕ) (hs : List Holder) (ts : List Thing) (na
       at_home : WaitsFor → (b : Bool) → is_unsent f ≡ b → IsSome it.home → is_unsent f ≡ true
       at_home by true is some = is
       at_home by false is some = absurd (false≢true (subst (λ q. IsSome q) (by.ordinary is) some))
-
-      never_sent : (b : Bool) → r.sent ≡ b → WaitsFor → IsHolding h workers hs ts naps boxes → r.sent ≡ false
-      never_sent false is by old = is
-      never_sent true is by old = absurd (false≢true (sym (ap is_unsent (old.sent k r by.thing is)) ∙ by.unsent))

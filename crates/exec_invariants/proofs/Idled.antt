@@ -1,13 +1,6 @@
 -- Steps that are a plain turn to the machine and change the idle set alone: the worker goes to a place that may hold other
 -- counts, and may have published its bit or not.
-use Rattle.std.proofs.Common.{[], ◌≡◌, ℕ, ◌≤◌, ◌+◌, Bool, true, false, Contains, List, Option, Some, None, refl, sym, ap, subst, ◌∙◌, slice_get, option_to_list, if◌then◌else◌, arith, ◌*◌}
-use Rattle.exec_words.specs.Idle.{Idle}
-use Rattle.exec_task.specs.declared.{body.Said.Said, runnable.Runnable.Runnable}
-use Rattle.exec_machine.specs.{declared.{event.Event.{Event, TheVariants.Turn}, state.Next.Next}, Choice.Choice.Plain, Progress.Plan}
-use Rattle.exec_moves.specs.{declared.{place.{InPoll.InPoll, Place.Place}}, Move.move_at, Seen.{next_at, polls_at, serves_at}, Thing.set_idle}
-use Rattle.exec_parts.specs.{Phased.{IsPhased, closes_at, closing_in, stage_of}, declared.parts.{record.Record.Record, sleeping.SleeperRecord.SleeperRecord, seat.Seat.Seat as Chair, shared.Shared.Shared, task_slot.TaskSlot.TaskSlot, worker.Worker.Worker}, Roles.is_pool, Calls.IsTold, Spots.Spot, View.{common_of, desk_of, driver_of, own_of, things_with, Views}}
-use Rattle.exec_invariants.proofs.Leaves.{with_read}
-use Rattle.exec_invariants.{specs.{Rooted.HearsNext, Flown.HasFlown, Due.IsDue, HoldPlaces.{cancels_at, sends_cancel_at, spare_at}, Kinds.{Kind, kind_of, lowered}, Places.{calls_back_at, has_count_at, in_poll_of, is_pooled_at, is_published_at, or_polls, searches_at, step_of_poll, begins_at, is_armed_at, hands_on_at, has_loot_at, polled_in}, Sound.{Aims, has_wakes_at, HasBatch, HasGuest, HasLetters, HasQueue, HasRunnable, IsHeld, IsInHand, IsLeft, IsLoot, IsSearching, IsSeated, IsTied, LetsGoAt, root_in_hand, Serves, SoundAt, Stops}, Names.tellers, Works.{Steps, Suits}, Whole.IsGenuine}, proofs.{Aside.{seats_same, spares_turn}, Counting.{Counts, SameHands, Stance, stance_at, stance_here, whole_counted}, Turning.{Arrives, GoesOn, IsTurn, OfKind, pool_low, turned}}}
+use Rattle.exec_invariants.{proofs.{Names.{[], ◌≡◌, ℕ, ◌≤◌, ◌+◌, Bool, true, false, Contains, List, Option, Some, None, refl, sym, ap, subst, ◌∙◌, slice_get, option_to_list, if◌then◌else◌, arith, ◌*◌, Idle, Said, Runnable, Event, Turn, Next, Plain, Plan, InPoll, Place, move_at, next_at, polls_at, serves_at, set_idle, IsPhased, closes_at, closing_in, stage_of, Record, SleeperRecord, Chair, Shared, TaskSlot, Worker, is_pool, IsTold, Spot, common_of, desk_of, driver_of, own_of, things_with, Views}, Leaves.with_read, Aside.{seats_same, spares_turn}, Counting.{Counts, SameHands, Stance, stance_at, stance_here, whole_counted}, Turning.{Arrives, GoesOn, IsTurn, OfKind, pool_low, turned}}, specs.{Rooted.HearsNext, Flown.HasFlown, Due.IsDue, HoldPlaces.{cancels_at, sends_cancel_at, spare_at}, Kinds.{Kind, kind_of, lowered}, Places.{calls_back_at, has_count_at, in_poll_of, is_pooled_at, is_published_at, or_polls, searches_at, step_of_poll, begins_at, is_armed_at, hands_on_at, has_loot_at, polled_in}, Sound.{Aims, has_wakes_at, HasBatch, HasGuest, HasLetters, HasQueue, HasRunnable, IsHeld, IsInHand, IsLeft, IsLoot, IsSearching, IsSeated, IsTied, LetsGoAt, root_in_hand, Serves, SoundAt, Stops}, Names.tellers, Works.{Steps, Suits}, Whole.IsGenuine}}
 
 -- what a place says but of search counts and the idle set; and where it is in a poll only within one
 abbrev pub step_if : Option ℕ → InPoll → InPoll
@@ -71,10 +64,9 @@ module _ {B : Type 0} where
   of_calm : (q q' : Place) (w : Worker) (s : Shared B) → SoundAt q w s → calm_of q' ≡ lowered w.role (is_pooled_at q') (calm_of q) → OfKind (calm_of q') w s
   of_calm q q' w s sound same =
       let tied : IsTied (in_poll_of w.root (polls_at q) (step_if (polls_at q) (step_of_poll q))) w.index w.root s.tasks.items = rw (step_again w.root (polls_at q) (step_of_poll q)) sound.tied in
-      let pooled = pool_low (is_pooled_at q') (is_pooled_at q) (is_pool w.role) sound.pooled in
       let guest = guest_calm (polls_at q) (step_of_poll q) w.index w.root s.tasks.items sound.guest in
       let stops = stops_calm (polls_at q) (step_of_poll q) w.index s.tasks.items s.requests.items s.sleepers.items sound.stops in
-      subst (λ k. OfKind k w s) (sym same) (assumption (pooled, guest, stops, tied, tt, sound))
+      subst (λ k. OfKind k w s) (sym same) (assumption (pool_low (is_pooled_at q') (is_pooled_at q) (is_pool w.role) sound.pooled, guest, stops, tied, tt, sound))
 
   -- a place that differs in what waits for the callbacks besides
   pub record Comes (q q' : Place) (x : Stance) (w : Worker) (s : Shared B) : Type 0 where
@@ -154,10 +146,9 @@ module _ {B : Type 0} where
       let aims : Aims q' s.config w.index t.seats.items = rw seats to.aims in
       let batch_place : (chair : Chair) → slice_get t.seats.items w.index ≡ Some chair → chair.mailbox.inbox.closed ≡ false → 2 * chair.made + 1 ≤ w.batch.places = rw seats sound.batch_place in
       let phased : (chair : Chair) → slice_get t.seats.items w.index ≡ Some chair → IsPhased w.index (closes_at q') (closing_in q') w.home.closing w.root w.names.unreleased (stage_of chair s) s.tasks.items = rw seats to.phased in
-      let guest = guest_again (polls_at q') (step_of_poll q') w.index w.root s.tasks.items it.guest in
       let stops = stops_again (polls_at q') (step_of_poll q') w.index s.tasks.items s.requests.items s.sleepers.items it.stops in
       let tied : IsTied (polled_in w.root q') w.index w.root s.tasks.items = rw (← step_again w.root (polls_at q') (step_of_poll q')) it.tied in
-      assumption (runnable, seated, queue, hand, loot, genuine, stolen, searches, slow, aims, batch_place, phased, guest, stops, tied, to, it)
+      assumption (runnable, seated, queue, hand, loot, genuine, stolen, searches, slow, aims, batch_place, phased, guest_again (polls_at q') (step_of_poll q') w.index w.root s.tasks.items it.guest, stops, tied, to, it)
 
 module _ {B L : Type 0} (left : B → L) (spot : L → Option Said → Spot) where
   pub idled_by : (q : Place) (z : Stance) (w w' : Worker) (s : Shared B) (x : Idle) (e : Event) → SoundAt q w s → e ≡ Turn → GoesOn w w' s.clock → Holds w w' → w'.searching ≡ z.searching → (is_pool w.role ≡ false → z.searching ≡ false) → Comes q w'.place z w s → next_at q ≡ Next.Free → serves_at q ≡ false → Counts (stance_at q w) z w s x

@@ -1,13 +1,5 @@
 -- What the middle of a service finds where no deadline has come, none is new, and no request waits at a gate.
-use Rattle.std.{proofs.{Common.{◌≡◌, ℕ, zero, suc, ◌+◌, ◌-◌, ◌*◌, ◌/◌, ◌<◌, ◌≤◌, ◌==◌, Bool, true, false, List, [], ◌∷◌, map, Option, Some, None, refl, sym, ap, subst, ◌∙◌, arith, slice_get, nat_le}, lemmas.Bool.{false≢true, Decides.nat_tests}, Math.Nat.div-lt_iff_lt-mul}, specs.{List.list_any, Option.option_map}}
-use Rattle.exec_base.specs.Slab.{Slab}
-use Rattle.exec_time.specs.declared.timers.Sleeper.{Sleeper as Sleeping}
-use Rattle.exec_waiters.specs.{States.{waiter_at, tick_in}, declared.waiter.Waiter.Waiter}
-use Rattle.exec_driver.specs.Driving.{Driving}
-use Rattle.exec_machine.specs.{declared.{config.Configuration.Configuration, state.Request.Request}, Deadlines.{is_due, is_first_due}, Tests.is_resolved, World.{Own, Common}}
-use Rattle.exec_moves.specs.{declared.place.InService.InService, Serve.first_numbered, State.Desk, Submit.{first_due, next_gate, due_next, staging_due}}
-use Rattle.exec_parts.{specs.{declared.parts.{mail.Reply.Reply, names.Names.Names, record.Record.Record, sleeping.SleeperRecord.SleeperRecord, worker.Moments.Moments}, Records.number_in}, proofs.Facts.same_number}
-use Rattle.exec_invariants.{specs.{Due.{IsDue, wheel_moment}, Names.IsNamed}, proofs.Recorded.request_seen}
+use Rattle.exec_invariants.{proofs.{Names.{◌≡◌, ℕ, zero, suc, ◌+◌, ◌-◌, ◌*◌, ◌<◌, ◌≤◌, ◌==◌, Bool, true, false, List, [], ◌∷◌, map, Option, Some, None, refl, sym, ap, subst, ◌∙◌, arith, slice_get, nat_le, false≢true, nat_tests, div-lt_iff_lt-mul, list_any, option_map, Slab, Sleeping, waiter_at, tick_in, Waiter, Driving, Configuration, Request, is_due, is_first_due, is_resolved, Own, Common, InService, first_numbered, Desk, first_due, next_gate, due_next, staging_due, Reply, Names, Record, SleeperRecord, Moments, number_in, same_number}, Recorded.request_seen}, specs.{Due.{IsDue, wheel_moment}, Names.IsNamed}}
 
 -- LISTS
 
@@ -59,8 +51,7 @@ module _ {closing : Bool} (x : Option InService) (i : ℕ) (m : Moments) (c : Co
       elim o as (λ o. waiter_at d.requests r.id.0 ≡ o → StandsTimed k r t) [
         | None ↦ λ gone. absurd (false≢true (sym unresolved ∙ named.over k r there mine gone))
         | Some w ↦ λ at.
-            let alike = named.alike r.id.0 w r at (ap (slice_get rs) number ∙ there) in
-            let e = timer_at (tick_in w.state) t (sym alike.timer ∙ timer) in
+            let e = timer_at (tick_in w.state) t (sym (named.alike r.id.0 w r at (ap (slice_get rs) number ∙ there)).timer ∙ timer) in
             record { it = w; live = at; numbered = number; tick = e.0; enrolled = e.1; moment = e.2 }
       ] in
       by (waiter_at d.requests r.id.0) refl
@@ -70,8 +61,7 @@ module _ {closing : Bool} (x : Option InService) (i : ℕ) (m : Moments) (c : Co
   ahead k r t none there mine timer =
       let it = stands_timed k r t there mine timer in
       let later = (due.punctual.ahead r.id it.tick (rw it.live it.enrolled) (rw none refl)).0 in
-      let under : (wheel_moment x m - m.start) / c.tick < it.tick = subst (λ j. j < it.tick) due.wheel.current later in
-      let less : wheel_moment x m - m.start < it.tick * c.tick = (div-lt_iff_lt-mul some).0 under in
+      let less : wheel_moment x m - m.start < it.tick * c.tick = (div-lt_iff_lt-mul some).0 (subst (λ j. j < it.tick) due.wheel.current later) in
       omega (arith, less, it.moment, begun)
 
   undue : d.lists.due ≡ [] → (k : ℕ) (r : Record) → slice_get rs k ≡ Some r → is_due i (wheel_moment x m) r.shown ≡ false

@@ -1,13 +1,5 @@
 -- One more result of a request of the first kinds: the driver and the machine judge it the same.
-use Rattle.std.{proofs.{Common.{◌≡◌, ℕ, ◌+◌, ◌-◌, ◌^◌, ◌<◌, ◌≤◌, ◌&&◌, Bool, true, false, not, Option, None, sym, ap, ◌∙◌, arith, nat_le, ◌⊎◌}, lemmas.Bool.{Decides.nat_tests}}}
-use Rattle.std.proofs.lemmas.Bool.{and_parts}
-use Rattle.std.proofs.Math.Bool.{and-true}
-use Rattle.exec_outcomes.specs.{Lawful.{is_lawful, window_in, window_of}, Outcomes.{Asked, Cursor, Part, bytes_of, counted_for, cursor_next, outcome_next, part_now, refuses_hint}, declared.outcome.{Judged.Judged, Kind.Kind, OpResult.{OpResult, TheVariants.{Count, Errno}}, Outcome.Outcome}}
-use Rattle.exec_request.specs.{Judging.{Judges, judged_as}, Requests.{asked_of, cursor_of, hinted_of}, declared.request.Request.Request as Asking}
-use Rattle.exec_waiters.specs.declared.waiter.Waiter.{Waiter}
-use Rattle.exec_machine.specs.{declared.state.Request.Request, Requests.{outcome_given, went_on, judged_of}}
-use Rattle.exec_parts.{specs.declared.parts.mail.Reply.Reply}
-use Rattle.exec_invariants.specs.Names.{IsAlike}
+use Rattle.exec_invariants.{proofs.Names.{◌≡◌, ℕ, ◌+◌, ◌-◌, ◌^◌, ◌<◌, ◌≤◌, ◌&&◌, Bool, true, false, not, Option, None, sym, ap, ◌∙◌, arith, nat_le, ◌⊎◌, nat_tests, and_parts, and-true, is_lawful, window_in, window_of, Asked, Cursor, Part, bytes_of, counted_for, cursor_next, outcome_next, part_now, refuses_hint, Judged, Kind, OpResult, Count, Errno, Outcome, Judges, judged_as, asked_of, cursor_of, hinted_of, Asking, Waiter, Request, outcome_given, went_on, judged_of, Reply}, specs.Names.IsAlike}
 
 -- WHAT A RESULT MEANS doesn't hang on whether the operations may still have the hint
 

@@ -1,11 +1,5 @@
 -- Where of a worker only its ring changes, in a service or a wait on it.
-use Rattle.std.proofs.Common.{◌≡◌, ℕ, ◌+◌, ◌<◌, ◌≤◌, false, List, [], ◌∷◌, ◌++◌, length, refl, sym, ap, subst, ◌∙◌, arith}
-use Rattle.exec_ring.specs.declared.completion.Submission.{Submission}
-use Rattle.exec_waiters.specs.Ids.{index_in}
-use Rattle.exec_driver.specs.Driving.{Driving}
-use Rattle.exec_moves.specs.declared.place.Place.{Place}
-use Rattle.exec_parts.specs.{declared.parts.{mail.Reply.Reply, shared.Shared.Shared, worker.{PutOff.PutOff, Worker.Worker}}, Serving.{AreTagged, cancels_in}, View.driver_of}
-use Rattle.exec_invariants.{specs.{Carried.those_of, Due.{IsWheelAt, may_be_due}, Flown.{IsPolled, is_poll, operations, polls_in}, Places.one_if, Sound.{SoundAt, served_in}, Names.IsSubmitted}, proofs.{Conveying.carried_ring, Flown.landed_as, ServingPlaces.calm, Serving.kept, ServingHolds.{Follows, KeepsBy}}}
+use Rattle.exec_invariants.{proofs.{Names.{◌≡◌, ℕ, ◌+◌, ◌<◌, ◌≤◌, false, List, [], ◌∷◌, ◌++◌, length, refl, sym, ap, subst, ◌∙◌, arith, Submission, index_in, Driving, Place, Reply, Shared, PutOff, Worker, AreTagged, cancels_in, driver_of}, Conveying.carried_ring, Flown.landed_as, ServingPlaces.calm, Serving.kept, ServingHolds.{Follows, KeepsBy}}, specs.{Carried.those_of, Due.{IsWheelAt, may_be_due}, Flown.{IsPolled, is_poll, operations, polls_in}, Places.one_if, Sound.{SoundAt, served_in}, Names.IsSubmitted}}
 
 -- an entry that is no wake poll
 pub polls_same : (es : List Submission) (e : Submission) → is_poll e.window.kind ≡ false → polls_in (es ++ e ∷ []) ≡ polls_in es

@@ -1,9 +1,5 @@
 -- The opens and their gates show the same while the names of all requests stay, and no durable one ends.
-use Rattle.std.proofs.{Common.{◌≡◌, ℕ, suc, ◌==◌, ◌&&◌, ◌++◌, Bool, false, List, [], ◌∷◌, map, Option, Some, None, option_to_list, refl, sym, ap, ◌∙◌, slice_get, if◌then◌else◌}, Math.Seq.map-set_same, lemmas.{Option.{get_or_from_slice_get, slice_get-map}}}
-use Rattle.std.proofs.Common.{arith}
-use Rattle.exec_base.specs.declared.slab.Id.{Id}
-use Rattle.exec_opens.specs.{Opens.OpenState, declared.opens.WaiterKey.WaiterKey}
-use Rattle.exec_parts.specs.{declared.parts.record.Record.Record, Serving.{changed_in, changed_at, flies, flown_in}, View.{gate_seen, gives_up, has_given_up, line_of, number_of_key, open_seen}}
+use Rattle.exec_invariants.proofs.Names.{◌≡◌, ℕ, suc, ◌==◌, ◌&&◌, ◌++◌, Bool, false, List, [], ◌∷◌, map, Option, Some, None, option_to_list, refl, sym, ap, ◌∙◌, slice_get, if◌then◌else◌, map-set_same, get_or_from_slice_get, slice_get-map, arith, Id, OpenState, WaiterKey, Record, changed_in, changed_at, flies, flown_in, gate_seen, gives_up, has_given_up, line_of, number_of_key, open_seen}
 
 -- whose a request is, its name in its driver, and whether it has given a permit up
 pub record Named : Type 0 where

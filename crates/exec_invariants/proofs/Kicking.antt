@@ -1,12 +1,6 @@
 -- What the steps by which search counts go from one party to another are to the machine: the leave of a search, a kick, a
 -- claim.
-use Rattle.std.proofs.Common.{◌≡◌, ℕ, ◌+◌, ◌-◌, ◌<◌, ◌==◌, length, Bool, true, false, IsSome, Option, Some, refl, sym, ap, subst, ◌∙◌, arith, if◌then◌else◌}
-use Rattle.exec_words.specs.{Idle.{Idle, lowest_of}, declared.idle.WorkerSet.WorkerSet}
-use Rattle.exec_task.specs.declared.body.Said.{Said}
-use Rattle.exec_machine.specs.{declared.event.Event.{Event, TheVariants.Turn}, Progress.Plan}
-use Rattle.exec_moves.specs.{declared.{handing.{AfterClaim.AfterClaim, AfterKick.AfterKick, AfterLeave.AfterLeave, AfterSignal.AfterSignal, InKick.InKick, InSignal.InSignal}, place.Place.Place}, Claim.{Claimed, after_claim, after_nobody, claim_worker, claimed, claimed_if, idle_after, same_bools, set_of}, Global.{has_any, one_count_more}, Move.move_at, Parts.after_kick, State.turns, Thing.with_idle}
-use Rattle.exec_parts.{specs.{declared.parts.{shared.Shared.Shared, worker.Worker.Worker}, Spots.Spot, Tests.{after_kick_of, after_return_of}, View.{Views, common_of, desk_of, own_of, things_with}, Things.{Goes, Makes}}, proofs.Facts.same_number}
-use Rattle.exec_invariants.{specs.{Sound.{Aims, SoundAt}, Places.has_count_at, Whole.HasWhole, Works.Steps}, proofs.{Counting.{Counts, Stance, Stands, claimed_there, counts_alone, counts_claimed, has_count, stance_at, stance_here}, Handed.{Between, KickNext, kick_comes, kick_seen, out, return_seen, return_settles, same_kick, settles_at, someone, to_kick}, Idled.{Comes, Settles, comes, comes_either, gone, gone_by, led}}}
+use Rattle.exec_invariants.{proofs.{Names.{◌≡◌, ℕ, ◌+◌, ◌-◌, ◌<◌, ◌==◌, length, Bool, true, false, IsSome, Option, Some, refl, sym, ap, subst, ◌∙◌, arith, if◌then◌else◌, Idle, lowest_of, WorkerSet, Said, Event, Turn, Plan, AfterClaim, AfterKick, AfterLeave, AfterSignal, InKick, InSignal, Place, Claimed, after_claim, after_nobody, claim_worker, claim_made as claimed, claimed_if, idle_after, same_bools, set_of, has_some as has_any, one_count_more, move_at, after_kick, turns, with_idle, Shared, Worker, Spot, after_kick_of, after_return_of, Views, common_of, desk_of, own_of, things_with, Goes, Makes, same_number}, Counting.{Counts, Stance, Stands, claimed_there, counts_alone, counts_claimed, has_count, stance_at, stance_here}, Handed.{Between, KickNext, kick_comes, kick_seen, out, return_seen, return_settles, same_kick, settles_at, someone, to_kick}, Idled.{Comes, Settles, comes, comes_either, gone, gone_by, led}}, specs.{Sound.{Aims, SoundAt}, Places.has_count_at, Whole.HasWhole, Works.Steps}}
 
 module _ {B : Type 0} where
   -- what a place of a kick says of its worker
@@ -79,16 +73,14 @@ module _ {B L : Type 0} (left : B → L) (spot : L → Option Said → Spot) (w 
 
       by : (none : Bool) → (s.idle.count == 0) ≡ none → w' ≡ record w { place = (if none then Place.ClaimWorker set (AfterClaim.Kick b) else after_kick_of b w) } → x ≡ (if none then record s.idle { count = 1 } else s.idle) → Steps left spot w s e w' (record s { idle = x })
       by true none goes is =
-          let zero_now : s.idle.count ≡ 0 = same_number s.idle.count 0 none in
-          let more : x ≡ one_count_more s.idle = is ∙ ap (λ n. record s.idle { count = n + 1 }) (sym zero_now) in
+          let more : x ≡ one_count_more s.idle = is ∙ ap (λ n. record s.idle { count = n + 1 }) (sym (same_number s.idle.count 0 none)) in
           let count : x.count ≡ s.idle.count + 1 = ap (λ i. i.count) more in
           gone left spot q (Place.ClaimWorker set (AfterClaim.Kick b)) (record { searching = false; counted = true; published = false }) w w' s x e sound turn goes sound.searching
           (record { same = same_kick w.role q (Place.ClaimWorker set (AfterClaim.Kick b)) refl; searches = refl; counts = refl; published = refl; queue = sound.queue; aims = sound.aims; batch = sound.batch; quiet = λ h. h }) refl refl
           (counts_alone (stance_at q w) false true w s x (stance_here q w sound.here) (ap (λ i. i.published) is) (rw sound.searching (omega (arith, count))))
           (λ p vs suits. rw (more, none) refl)
       by false some goes is =
-          let same : s.idle ≡ x = sym is in
-          subst (λ y. Steps left spot w s e w' (record s { idle = y })) same
+          subst (λ y. Steps left spot w s e w' (record s { idle = y })) (sym is)
           (gone_by left spot q (after_kick_of b w) (out false) w w' s s.idle e sound turn goes sound.searching
           (kick_comes b q w s sound next.comes (at_kick (InKick.ExchangeKickCount set) b w s sound)) refl refl (still (InKick.ExchangeKickCount set) b refl sound)
           (λ p vs suits. rw (some, kick_seen left spot p vs q w s sound suits.config b (next.seen p vs suits)) refl))

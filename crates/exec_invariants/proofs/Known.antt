@@ -1,12 +1,5 @@
 -- What a worker's records say that its driver has forgotten stays so, as requests go on and end.
-use Rattle.std.proofs.{Common.{◌≡◌, ℕ, ◌+◌, ◌<◌, ◌≤◌, ◌^◌, length, arith, Bool, true, false, List, Some, IsSome, refl, sym, ap, subst, ◌∙◌, slice_get, ◌⊎◌, inl, inr}, lemmas.Bool.{eq-eqb}}
-use Rattle.exec_base.{specs.{Slab.{Slab, IsPast, value_at, written}, declared.slab.Id.Id}, proofs.Slots.{past-write}}
-use Rattle.exec_request.specs.Requests.{cursor_of}
-use Rattle.exec_waiters.{specs.{States.waiter_at, declared.waiter.{Entry.{Entry, TheVariants.Pending}, Waiter.Waiter}}, proofs.Changes.entry_of}
-use Rattle.exec_opens.specs.Opens.{OpenState}
-use Rattle.exec_lists.proofs.Counting.{OneChanged, one_written}
-use Rattle.exec_parts.{specs.{declared.parts.{mail.Reply.Reply, record.Record.Record}, Records.number_in, Serving.changed_at}, proofs.Facts.by_name}
-use Rattle.exec_invariants.{specs.Gates.{IsKnown, has_hint_at, may_ask_hint}, proofs.Marking.{mark_if, marked, marked_length, was_marked}}
+use Rattle.exec_invariants.{proofs.{Names.{◌≡◌, ℕ, ◌+◌, ◌<◌, ◌≤◌, ◌^◌, length, arith, Bool, true, false, List, Some, IsSome, refl, sym, ap, subst, ◌∙◌, slice_get, ◌⊎◌, inl, inr, eq-eqb, Slab, IsPast, value_at, written, Id, past-write, cursor_of, waiter_at, Entry, Pending, Waiter, entry_of, OpenState, OneChanged, one_written, Reply, Record, number_in, changed_at, by_name}, Marking.{mark_if, marked, marked_length, was_marked}}, specs.Gates.{IsKnown, has_hint_at, may_ask_hint}}
 
 -- A request asks for its hint as before: its driver knows of it, and the record.
 pub record AsksAsBefore (it it' : Waiter Reply Reply) (r r' : Record) : Type 0 where
@@ -97,8 +90,7 @@ module _ (i : ℕ) (numbers : List ℕ) (requests : Slab (Entry Reply Reply)) (o
       inl (record { it = x; r = old.0; live = was; there = old.1; asks = record { driver = λ h. inl h; kind = old.2.kind; target = old.2.target; unrefused = old.2.unrefused } }))
       (λ same.
       let is : x ≡ it' = cc (at, same, changed.is_at) in
-      let at_k : slice_get (changed_at rs k f) k ≡ Some r' = subst (λ j. slice_get (changed_at rs k f) j ≡ Some r') (ap (number_in numbers) same ∙ sym number) found in
-      let here : f r ≡ r' = cc (at_k, now_there rs k f r there) in
+      let here : f r ≡ r' = cc (subst (λ j. slice_get (changed_at rs k f) j ≡ Some r') (ap (number_in numbers) same ∙ sym number) found, now_there rs k f r there) in
       let was : r ≡ old.0 = cc (there, old.1, number, ap (number_in numbers) same) in
       grind arith))
       known

@@ -1,6 +1,5 @@
 -- A record that was set as a function gives it.
-use Rattle.std.proofs.{Common.{◌≡◌, ℕ, List, Some, sym, ap, ◌∙◌, slice_get, slice_set, get_or}, lemmas.Option.get_or_from_slice_get}
-use Rattle.exec_parts.specs.{declared.parts.record.Record.Record, Serving.{changed_at, changed_in}}
+use Rattle.exec_invariants.proofs.Names.{◌≡◌, ℕ, List, Some, sym, ap, ◌∙◌, slice_get, slice_set, get_or, get_or_from_slice_get, Record, changed_at, changed_in}
 
 same_record : (x y : Record) → x.id ≡ y.id → x.shown ≡ y.shown → x.sent ≡ y.sent → x ≡ y
 same_record x y id shown sent = ap (λ i. record x { id = i }) id ∙ ap (λ r. record y { shown = r; sent = x.sent }) shown ∙ ap (λ b. record y { sent = b }) sent

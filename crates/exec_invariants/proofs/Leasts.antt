@@ -1,7 +1,5 @@
 -- The least of the moments that the elements of a list have.
-use Rattle.std.proofs.{Common.{◌≡◌, ℕ, suc, ◌≤◌, Bool, true, false, List, [], ◌∷◌, Option, Some, None, refl, sym, ap, ◌∙◌, arith, slice_get, nat_le, if◌then◌else◌}, lemmas.Bool.Decides.nat_tests}
-use Rattle.std.proofs.lemmas.Bool.{leb-true}
-use Rattle.exec_machine.specs.Deadlines.{earlier}
+use Rattle.exec_invariants.proofs.Names.{◌≡◌, ℕ, suc, ◌≤◌, Bool, true, false, List, [], ◌∷◌, Option, Some, None, refl, sym, ap, ◌∙◌, arith, slice_get, nat_le, if◌then◌else◌, nat_tests, leb-true, earlier}
 
 -- element k has this moment
 pub record HasAt {A : Type 0} (f : A → Option ℕ) (xs : List A) (m : ℕ) : Type 0 where

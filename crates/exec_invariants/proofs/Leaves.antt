@@ -1,8 +1,5 @@
 -- What single steps leave: seats that the clock reaches, raises that were taken in, a clock that was read.
-use Rattle.std.proofs.{Common.{◌≡◌, ℕ, Bool, true, false, set, Option, Some, ap, ◌∙◌, slice_get, slice_set}}
-use Rattle.exec_parts.specs.{declared.parts.{seat.Seat.Seat as Chair, shared.Shared.Shared, worker.Worker.Worker}, Pooled.with_raises, Tests.IsNextIn, View.driver_of}
-use Rattle.exec_invariants.specs.Raises.{TakesRaises}
-use Rattle.exec_parts.specs.declared.parts.worker.Moments.{Moments}
+use Rattle.exec_invariants.{proofs.Names.{◌≡◌, ℕ, Bool, true, false, set, Option, Some, ap, ◌∙◌, slice_get, slice_set, Chair, Shared, Worker, with_raises, IsNextIn, driver_of, Moments}, specs.Raises.TakesRaises}
 
 abbrev pub with_read : ℕ → Moments → Moments
 with_read r m = record m { read = r }

@@ -1,22 +1,5 @@
 -- What flies and what has landed, once a request is over.
-use Rattle.std.{proofs.{Common.{◌≡◌, ◌≢◌, ℕ, ◌==◌, Bool, true, false, List, Option, Some, None, IsSome, refl, sym, ap, subst, ◌∙◌, slice_get}, lemmas.Bool.false≢true}, specs.{VecDeque.deque_capacity, Vec.vec_capacity, Prelude.{length, is_some, ◌≤◌, ◌+◌}}}
-use Rattle.std.proofs.Common.{arith}
-use Rattle.exec_base.specs.{Slab.{Slab, value_at}, declared.slab.Id.Id}
-use Rattle.exec_outcomes.specs.declared.outcome.Outcome.{Outcome}
-use Rattle.exec_time.specs.declared.timers.Sleeper.{Sleeper as Sleeping}
-use Rattle.exec_request.specs.{declared.output.RequestOutput.RequestOutput, Requests.deadline_of}
-use Rattle.exec_waiters.{specs.{States.{waiter_at, waiter_of, needs_permit, takes_tick}, declared.{observer.Observer.{Observer, TheVariants.Local}, waiter.{Entry.{Entry, TheVariants.Pending}, Waiter.Waiter}, waiter_id.WaiterId.WaiterId}}, proofs.Changes.entry_of}
-use Rattle.exec_driver.specs.Driving.{Driving}
-use Rattle.exec_lists.specs.Lists.{is_among, withdrawn}
-use Rattle.exec_machine.specs.Tests.{is_resolved}
-use Rattle.exec_moves.specs.declared.place.InService.{InService}
-use Rattle.exec_parts.{specs.{declared.parts.{mail.Reply.Reply, names.Names.Names, record.Record.Record, sleeping.SleeperRecord.SleeperRecord}, Records.number_in, Serving.changed_at}, proofs.Facts.same_number}
-use Rattle.exec_invariants.{specs.{Due.AreTimed, Flown.{IsPolled, AreLanded, HasFlown, IsPlain, operations}, Names.IsNamed}, proofs.{Flown.landed_on, Marking.{mark_if, marked, was_marked}, Over.{OneEnds, kept_worker}, Resolving.{EntryAfter, left_among}}}
-use Rattle.exec_driver.proofs.Serving.{among_others}
-
-number_not : (k m : ℕ) → (k ≡ m → ⊥) → (b : Bool) → (k == m) ≡ b → b ≡ false
-number_not k m apart true is = absurd (apart (same_number k m is))
-number_not k m apart false is = refl
+use Rattle.exec_invariants.{proofs.{Names.{◌≡◌, ◌≢◌, ℕ, ◌==◌, Bool, true, false, List, Option, Some, None, refl, sym, ap, subst, ◌∙◌, slice_get, false≢true, deque_capacity, vec_capacity, length, is_some, ◌≤◌, ◌+◌, arith, Slab, value_at, Id, Outcome, Sleeping, RequestOutput, deadline_of, waiter_at, waiter_of, needs_permit, takes_tick, Observer, Local, Entry, Pending, Waiter, WaiterId, entry_of, Driving, is_among, withdrawn, is_resolved, InService, Reply, Names, Record, SleeperRecord, number_in, changed_at, same_number, among_others, not_same}, Flown.landed_on, Marking.{mark_if, marked, was_marked}, Over.{OneEnds, kept_worker}, Resolving.{EntryAfter, left_among}}, specs.{Due.AreTimed, Flown.{IsPolled, AreLanded, HasFlown, IsPlain, operations}, Names.IsNamed}}
 
 -- WHAT FLIES, and WHAT HAS LANDED
 
@@ -74,11 +57,10 @@ module _ (i : ℕ) (n : Names) (d d' : Driving Reply Reply) (zs : Slab (Sleeping
       let apart : other ≢ id = λ e.
       let both : w ≡ it = cc (at, one.at, e) in
       false≢true (sym idle ∙ ap (λ z. z.in_flight) (sym both) ∙ flies) in
-      let some : IsSome (value_at d.requests other) = rw (entry_of (value_at d.requests other) w at) refl in
       let j = number_in n.requests.items other in
       let apart_k : k ≡ j → ⊥ = λ same.
       let a = named.requests id (rw value_there refl) in
-      let b = named.requests other some in
+      let b = named.requests other (rw (entry_of (value_at d.requests other) w at) refl) in
       let both : a.0 ≡ b.0 = cc (a.1, b.1, same) in
       apart (sym b.2 ∙ ap (λ z. z.id.0) (sym both) ∙ a.2) in
-      record { it' = w; r' = y; live = ap waiter_of (one.slab.others other apart) ∙ at; flies = refl; same = refl; number = ap (λ v. number_in v.items other) requests; there = marked f rs k j y there ∙ ap (λ b. Some (mark_if f b y)) (number_not k j apart_k (k == j) refl); phase = refl }))
+      record { it' = w; r' = y; live = ap waiter_of (one.slab.others other apart) ∙ at; flies = refl; same = refl; number = ap (λ v. number_in v.items other) requests; there = marked f rs k j y there ∙ ap (λ b. Some (mark_if f b y)) (not_same k j apart_k); phase = refl }))

@@ -1,14 +1,5 @@
 -- WHO HOLDS OR AWAITS ONE REQUEST CHANGES: what its worker keeps for others then, and all else that holds again of the worker's own.
-use Rattle.std.proofs.{Common.{◌≡◌, ◌≢◌, ◌⊎◌, ⊎_elim, ℕ, ◌+◌, ◌≤◌, true, false, Contains, List, [], count_by, length, Some, None, IsSome, Result, Ok, Err, refl, sym, ap, subst, ◌∙◌, arith, slice_get, length-append}, lemmas.{Bool.false≢true, List.append-nil}}
-use Rattle.exec_base.specs.{Slab.{Slab, value_at}, declared.{error.Error.Error, slab.Id.Id}}
-use Rattle.exec_time.specs.declared.{notes.ForwardedResult.ForwardedResult, timers.Sleeper.{Sleeper as Sleeping}}
-use Rattle.exec_request.specs.declared.output.RequestOutput.{RequestOutput}
-use Rattle.exec_waiters.{specs.{States.{pending_count, waiter_at, waiter_of}, Told.{Told, Tells}, declared.{deferred.{Answer.Answer, Deferred.Deferred}, observer.Observer.TheVariants.Forwarded, waiter.{Entry.TheVariants.Ready, Waiter.Waiter}}}, proofs.Changes.entry_of}
-use Rattle.exec_driver.specs.{Driving.Driving, Punctual.IsPunctual}
-use Rattle.exec_machine.specs.Tests.{is_applied, is_resolved}
-use Rattle.exec_moves.specs.declared.handing.Heard.{Heard}
-use Rattle.exec_parts.{specs.{declared.parts.{mail.Reply.Reply, names.Names.Names, record.Record.Record, shared.Shared.Shared, sleeping.SleeperRecord.SleeperRecord, worker.Worker.Worker}, Records.{number_in, outcome_in}, Calls.IsTold}, proofs.Facts.{by_name, by_number, false_from_ne_true, same_Some}}
-use Rattle.exec_invariants.{specs.{Due.{IsDue, IsWheelAt}, Holding.{IsAnswerOf, thing_of}, Places.one_if, Rooted.{IsResult, IsRooted, Pays, goes_elsewhere, is_of_timer, results_of}, Sound.{AreOver, served_in}, Names.{HasWidth, IsNamed, tellers}, HoldPlaces.has_wakes_at}, proofs.{ServingHolds.KeepsWith, Watching.{Watched, apart_number, carried_watched, due_watched, flown_watched, known_watched, named_watched, now_there, other_still, other_there, over_watched}}}
+use Rattle.exec_invariants.{proofs.{Names.{◌≡◌, ◌≢◌, ◌⊎◌, ⊎_elim, ℕ, ◌+◌, ◌≤◌, true, false, Contains, List, [], count_by, length, Some, None, IsSome, Result, Ok, Err, refl, sym, ap, subst, ◌∙◌, arith, slice_get, length-append, false≢true, append-nil, Slab, value_at, Error, Id, ForwardedResult, Sleeping, RequestOutput, pending_count, waiter_at, waiter_of, Told, Tells, Answer, Deferred, Forwarded, Ready, Waiter, entry_of, Driving, IsPunctual, is_applied, is_resolved, Heard, Reply, Names, Record, Shared, SleeperRecord, Worker, number_in, outcome_in, IsTold, by_name, by_number, false_from_ne_true, same_Some}, ServingHolds.KeepsWith, Watching.{Watched, apart_number, carried_watched, due_watched, flown_watched, known_watched, named_watched, now_there, other_still, other_there, over_watched}}, specs.{Due.{IsDue, IsWheelAt}, Holding.{IsAnswerOf, thing_of}, Places.one_if, Rooted.{IsResult, IsRooted, Pays, goes_elsewhere, is_of_timer, results_of}, Sound.{AreOver, served_in}, Names.{HasWidth, IsNamed, tellers}, HoldPlaces.has_wakes_at}}
 
 -- WHAT IS TOLD: of each list one at most, and nothing that a request owned
 pub record TellsOne (t : Told Reply Reply) : Type 0 where
@@ -69,8 +60,7 @@ module _ (i : ℕ) (n : Names) (d d' : Driving Reply Reply) (zs : Slab (Sleeping
             by_number j k
             (λ differs.
             let was = rooted.ready j x (there_was j x (λ e. differs (sym e)) found) mine over seen unapplied in
-            let apart : x.id.0 ≢ id = λ e. differs (sym was.named ∙ ap (number_in n.requests.items) e) in
-            record { named = was.named; live = subst IsSome (sym (by.others x.id.0 apart)) was.live })
+            record { named = was.named; live = subst IsSome (sym (by.others x.id.0 (λ e. differs (sym was.named ∙ ap (number_in n.requests.items) e)))) was.live })
             (λ same.
             let is = it_is j x same found in
             absurd (false≢true (sym (to.unkept (sym (ap (λ (y : Record). is_resolved y.shown.phase) by.keeps) ∙ ap (λ (y : Record). is_resolved y.shown.phase) is ∙ over)) ∙ ap (λ (y : Record). y.shown.observed) is ∙ seen)));

@@ -1,30 +1,6 @@
 -- WHAT IS SEEN of a request that its worker has let go of: the machine's lists, what stands on the desk, and what others see.
-use Rattle.std.proofs.{Common.{◌≡◌, ◌≢◌, ℕ, suc, ◌+◌, ◌&&◌, Bool, true, false, not, List, [], ◌∷◌, ◌++◌, length, slice_index_or, Some, None, IsSome, is_some, refl, sym, ap, ◌∙◌, arith, slice_get, if◌then◌else◌}, lemmas.{Bool.{false≢true, eq-eqb}, List.{append-nil, length-append, map-append}, Option.get_or_from_slice_get}}
-use Rattle.exec_base.specs.{Slab.{Slab, is_live, value_at, written}, declared.{slab.{Id.Id, Slot.{Slot, TheVariants.{Live, Vacant, Retired}}}}}
-use Rattle.exec_request.specs.declared.output.RequestOutput.{RequestOutput}
-use Rattle.exec_waiters.specs.{Events.{told_to, untaken, waker_in}, States.{flying_count, is_held_by, waiter_of}, declared.{deferred.{Answer.Answer}, observer.Observer.{Observer, TheVariants.{DetachedSync, Forwarded, Local, Orphaned}}, waiter.{Entry.{Entry, TheVariants.{Pending, Ready}}, Waiter.Waiter}}}
-use Rattle.exec_driver.specs.{Driving.{Driving}}
-use Rattle.exec_machine.specs.{declared.state.Request.Request, Requests.{ends_by_drop, is_cancelled_by_drop, joined_if, left_if, own_after_drop}, Tests.{is_resolved}, World.{Common, request_of}}
-use Rattle.exec_moves.specs.{declared.handing.Heard.Heard, Slots.{is_in_slots, is_some_slot, slot_of, vacated}, State.Desk, Told.{awaits_no_more, one_output, one_result, told_of_drop, turned_away, without_request}}
-use Rattle.exec_parts.{specs.{declared.parts.{mail.Reply.Reply, record.Record.Record, shared.Shared.Shared, worker.Worker.Worker}, Awaits.LetsGo, Records.number_in, View.{awaited_from, awaits_entry, desk_of, driver_of, numbers_of, own_of, results_in, slots_from, slots_seen, visible}}, proofs.Facts.{and_right, not_same, same_Some}}
-use Rattle.exec_invariants.{specs.{Gates.AreLinedUp, Rooted.IsNear, Sound.served_in}, proofs.{Known.low_there, LetGone.{is_left, left_gone, number}, LetSlab.same_flying, ServingHolds.KeepsSpare, Slotted.{OneSlot, awaited_over, awaited_removed, awaited_written, slot_in, slots_vacated, slots_written}}}
-
--- THE SLOTS: no slot has a number that no live one has
-pub not_in : (n k : ℕ) (numbers : List ℕ) (slots : List (Slot (Entry Reply Reply))) → ((j : ℕ) (x : Slot (Entry Reply Reply)) → slice_get slots j ≡ Some x → is_live x ≡ true → slice_index_or numbers (k + j) 0 ≢ n) → slot_of n k (slots_from k numbers slots) ≡ None
-not_in n k numbers [] never = refl
-not_in n k numbers (x ∷ slots) never =
-    by (is_live x) refl ∙ not_in n (suc k) numbers slots (λ j y at alive same. never (suc j) y at alive (ap (λ m. slice_index_or numbers m 0) (let e : k + suc j ≡ suc k + j = omega arith in e) ∙ same))
-  where
-    by : (b : Bool) → is_live x ≡ b → slot_of n k (slots_from k numbers (x ∷ slots)) ≡ slot_of n (suc k) (slots_from (suc k) numbers slots)
-    by true alive =
-        let other : slice_index_or numbers k 0 ≢ n = λ same. never 0 x refl alive (ap (λ m. slice_index_or numbers m 0) (let e : k + 0 ≡ k = omega arith in e) ∙ same) in
-        ap (λ b. slot_of n k ((if b then Some (slice_index_or numbers k 0) else None) ∷ slots_from (suc k) numbers slots)) alive
-        ∙ ap (λ b. if b then Some k else slot_of n (suc k) (slots_from (suc k) numbers slots)) (not_same n (slice_index_or numbers k 0) (λ same. other (sym same)))
-    by false dead = ap (λ b. slot_of n k ((if b then Some (slice_index_or numbers k 0) else None) ∷ slots_from (suc k) numbers slots)) dead
-
--- what is live has a value
-pub value_live : (s : Slab (Entry Reply Reply)) (j g : ℕ) (e : Entry Reply Reply) → slice_get s.slots j ≡ Some (Live g e) → value_at s (record { index = j; generation = g }) ≡ Some e
-value_live = grind (arith, get_or_from_slice_get, eq-eqb)
+use Rattle.exec_invariants.{proofs.{Names.{◌≡◌, ℕ, ◌+◌, ◌&&◌, true, false, not, List, [], ◌∷◌, ◌++◌, length, slice_index_or, Some, None, is_some, refl, sym, ap, ◌∙◌, arith, slice_get, if◌then◌else◌, false≢true, append-nil, length-append, map-append, is_live, value_at, written, Id, Slot, Live, Vacant, Retired, RequestOutput, told_to, untaken, waker_in, flying_count, is_held_by, waiter_of, Answer, Observer, DetachedSync, Forwarded, Local, Orphaned, Entry, Pending, Ready, Waiter, Driving, Request, ends_by_drop, is_cancelled_by_drop, joined_if, left_if, own_after_drop, is_resolved, Common, request_of, Heard, is_in_slots, is_some_slot, vacated, Desk, awaits_no_more, one_output, one_result, told_of_drop, turned_away, without_request, Reply, Record, Shared, Worker, LetsGo, number_in, awaited_from, awaits_entry, desk_of, driver_of, numbers_of, own_of, results_in, slots_seen, visible, and_right, same_Some}, LetKept.{is_left, left_gone, number}, LetSlab.same_flying, ServingHolds.KeepsSpare, Slotted.{OneSlot, awaited_over, awaited_removed, awaited_written, slot_in, slots_vacated, slots_written}, LetSlots.named_slot}, specs.{Gates.AreLinedUp, Rooted.IsNear, Sound.served_in}}
+pub use Rattle.exec_invariants.proofs.FiringSlots.{slot_none as not_in, value_of_slot as value_live}
 
 -- what the desk is then of one that stands in a slot
 abbrev pub dropped_desk : ℕ → Request → Desk → Desk
@@ -52,22 +28,11 @@ module _ {B : Type 0} (k : ℕ) (w v : Worker) (s s' : Shared B) (idle : served_
 
   -- each number stands in one slot
   pub one_slot : (e : Entry Reply Reply) → value_at d.requests id ≡ Some e → OneSlot w.names.requests.items d.requests id
-  one_slot e value =
-      grind (arith, value, low_there, w.index, d.requests, s.opens, s.requests.items, keeps.known, id, by)
-    where
-      by : (j : ℕ) (x : Slot (Entry Reply Reply)) → slice_get d.requests.slots j ≡ Some x → is_live x ≡ true → slice_index_or n j 0 ≡ number_in n id → j ≡ id.index
-      by j (Live g x) at alive same =
-          let other : Id = record { index = j; generation = g } in
-          let a = keeps.named.requests other (rw (value_live d.requests j g x at) refl) in
-          let b = keeps.named.requests id (rw value refl) in
-          let both : a.0 ≡ b.0 = same_Some a.0 b.0 (sym a.1 ∙ ap (slice_get s.requests.items) same ∙ b.1) in
-          ap (λ (y : Id). y.index) (sym a.2 ∙ ap (λ (y : Record). y.id.0) both ∙ b.2)
-      by j (Vacant g) at alive same = absurd (false≢true alive)
-      by j Retired at alive same = absurd (false≢true alive)
+  one_slot e value = (named_slot w.index w.names d w.home.timers s.opens s.requests.items s.sleepers.items keeps.named keeps.known id e value).0
 
   pub one_is : (e : Entry Reply Reply) (value : value_at d.requests id ≡ Some e) → (one_slot e value).e ≡ e
   unfolding one_slot
-  one_is e value = refl
+  one_is e value = (named_slot w.index w.names d w.home.timers s.opens s.requests.items s.sleepers.items keeps.named keeps.known id e value).1
 
   -- WHAT OF THE WORKER IS SEEN, in its parts
   pub record IsSeen : Type 0 where
@@ -110,9 +75,7 @@ module _ {B : Type 0} (k : ℕ) (w v : Worker) (s s' : Shared B) (idle : served_
           let other : Id = record { index = j; generation = g } in
           let value = value_live d.requests j g e at in
           let a = keeps.named.requests other (rw value refl) in
-          let both : a.0 ≡ lets.r = same_Some a.0 lets.r (sym a.1 ∙ ap (slice_get s.requests.items) same ∙ lets.request) in
-          let is : other ≡ id = sym a.2 ∙ ap (λ (y : Record). y.id.0) both in
-          let no : Some e ≡ None = sym value ∙ ap (value_at d.requests) is ∙ none in
+          let no : Some e ≡ None = sym value ∙ ap (value_at d.requests) (sym a.2 ∙ ap (λ (y : Record). y.id.0) (same_Some a.0 lets.r (sym a.1 ∙ ap (slice_get s.requests.items) same ∙ lets.request))) ∙ none in
           absurd (cc)
       no_slot none j (Vacant g) at alive same = false≢true alive
       no_slot none j Retired at alive same = false≢true alive
@@ -122,17 +85,13 @@ module _ {B : Type 0} (k : ℕ) (w v : Worker) (s s' : Shared B) (idle : served_
   seen_over told ready =
       let s0 = d.requests in
       let d0 = desk_of w in
-      let some : IsSome (value_at s0 id) = rw ready refl in
-      let is = number k w v s s' idle gates keeps lets mine seen some in
-      let at_number : slice_get s.requests.items kk ≡ Some lets.r = ap (slice_get s.requests.items) is ∙ lets.request in
-      let kept = keeps.rooted.kept id told lets.r ready at_number in
+      let is = number k w v s s' idle gates keeps lets mine seen (rw ready refl) in
+      let kept = keeps.rooted.kept id told lets.r ready (ap (slice_get s.requests.items) is ∙ lets.request) in
       let left = is_left k w v s s' idle gates keeps lets mine seen (Some (Ready told)) ready refl (ap is_resolved kept.over) in
       let one = one_slot (Ready told) ready in
-      let unawaited : awaits_entry one.e ≡ false = ap awaits_entry (one_is (Ready told) ready) in
       let outputs : length v.home.deferred.outputs.items ≡ d0.outputs + 1 = ap length left.tells.outputs_added ∙ length-append w.home.deferred.outputs.items (untaken {S = Reply} {F = Reply} id told).outputs in
-      let results : v.home.deferred.results.items ≡ w.home.deferred.results.items = left.tells.results_added ∙ append-nil w.home.deferred.results.items in
       let requests : slots_seen n (driver_of v).requests ≡ vacated kk d0.requests = ap (λ x. slots_seen n x.requests) left.driver ∙ slots_vacated n s0 id one in
-      let awaited : awaited_from 0 n (driver_of v).requests.slots ≡ d0.awaited = ap (λ x. awaited_from 0 n x.requests.slots) left.driver ∙ awaited_removed n s0 id one unawaited in
+      let awaited : awaited_from 0 n (driver_of v).requests.slots ≡ d0.awaited = ap (λ x. awaited_from 0 n x.requests.slots) left.driver ∙ awaited_removed n s0 id one (ap awaits_entry (one_is (Ready told) ready)) in
       let then_is : told_of_drop kk lets.r.shown d0 ≡ record d0 { outputs = d0.outputs + 1; requests = vacated kk d0.requests } =
       desk_there kk lets.r.shown d0 seen (slot_in n s0 id one) ∙ ap (λ b. if b then one_output (without_request kk d0) else if ends_by_drop lets.r.shown then one_output (without_request kk (turned_away kk lets.r.shown d0)) else turned_away kk lets.r.shown d0) (ap is_resolved kept.over) in
       record {
@@ -144,7 +103,7 @@ module _ {B : Type 0} (k : ℕ) (w v : Worker) (s s' : Shared B) (idle : served_
         flying = ap (λ x. flying_count x.requests) left.driver ∙ same_flying s0 id told ready;
         wakes = left.tells.notes.wakes_added ∙ append-nil w.home.deferred.notes.wakes.items;
         completed = left.tells.notes.completions_added ∙ append-nil w.home.deferred.notes.completions.items;
-        desk = grind (arith, outputs, results, requests, awaited, then_is, is);
+        desk = grind (arith, outputs, left.tells.results_added ∙ append-nil w.home.deferred.results.items, requests, awaited, then_is, is);
       }
 
   -- NOBODY WAITS FOR IT at its driver any more: on the desk
@@ -166,17 +125,15 @@ module _ {B : Type 0} (k : ℕ) (w v : Worker) (s s' : Shared B) (idle : served_
       by : (o : Observer Reply Reply) → it.observer ≡ o → IsNear o lets.r.shown.forwarding → results ≡ w.home.deferred.results.items ++ (told_to id o).results
           → record (desk_of w) { results = results_in results; requests = slots_seen n (written d.requests id (Pending it')); awaited = awaited_from 0 n (written d.requests id (Pending it')).slots } ≡ turned_away kk lets.r.shown (desk_of w)
       by (Local waker) is near added =
-          let over = awaited_over n d.requests id (one_slot (Pending it) value) (Pending it') none_awaits in
           start
           ∙ ap (λ x. record (desk_of w) { results = results_in x; awaited = awaited_from 0 n (written d.requests id (Pending it')).slots }) (added ∙ append-nil w.home.deferred.results.items)
-          ∙ ap (λ x. record (desk_of w) { awaited = x }) over.0
+          ∙ ap (λ x. record (desk_of w) { awaited = x }) (awaited_over n d.requests id (one_slot (Pending it) value) (Pending it') none_awaits).0
           ∙ sym (ap (λ b. if b then one_result kk (desk_of w) else awaits_no_more kk (desk_of w)) near)
       by (Forwarded reply) is near added =
-          let same : awaits_entry (Pending it) ≡ awaits_entry (Pending it') = ap (λ o. is_some (waker_in o)) is ∙ sym none_awaits in
           let last : results_in results ≡ (desk_of w).results ++ kk ∷ [] = grind (arith, added, map-append, replies) in
           start
           ∙ ap (λ x. record (desk_of w) { results = x; awaited = awaited_from 0 n (written d.requests id (Pending it')).slots }) last
-          ∙ ap (λ x. record (desk_of w) { results = (desk_of w).results ++ kk ∷ []; awaited = x }) (awaited_written n d.requests id (Pending it) (Pending it') value same)
+          ∙ ap (λ x. record (desk_of w) { results = (desk_of w).results ++ kk ∷ []; awaited = x }) (awaited_written n d.requests id (Pending it) (Pending it') value (ap (λ o. is_some (waker_in o)) is ∙ sym none_awaits))
           ∙ sym (ap (λ b. if b then one_result kk (desk_of w) else awaits_no_more kk (desk_of w)) near)
       by (DetachedSync reply) is near added = absurd near
       by Orphaned is near added = absurd (false≢true (sym (ap is_held_by is) ∙ held))

@@ -1,13 +1,5 @@
 -- AN OUTPUT LEAVES THE DRIVER: nothing is where it was kept, and no request that isn't over changes.
-use Rattle.std.proofs.{Common.{◌≡◌, ◌≢◌, ◌+◌, ◌^◌, ◌<◌, Some, None, IsSome, refl, sym, ap, ◌∙◌, arith, is_some, List, slice_get, true, subst, false, ◌⊎◌, inl}, lemmas.{Bool.false≢true, List.length-set}}
-use Rattle.exec_base.{specs.{Slab.{IsPast, Slab, value_at, removed, freed}, declared.slab.Id.Id}, proofs.Slots.{Changed-set, IsLiveAt-from_value, Updates-free, live_within, past-free, was_live}}
-use Rattle.exec_request.specs.declared.output.RequestOutput.{RequestOutput}
-use Rattle.exec_waiters.specs.{States.{waiter_at, pending_count, flying_count, is_flying, tick_of, awaits_tick, waiter_of}, declared.{waiter.{Entry.{Entry, TheVariants.Ready}, Waiter.Waiter}, waiter_id.WaiterId.WaiterId}}
-use Rattle.exec_lists.{proofs.Counting.{OneChanged, one_removed, pending_is, flying_is}, specs.Lists.is_among}
-use Rattle.exec_driver.specs.Driving.{Driving}
-use Rattle.exec_parts.{specs.{declared.parts.{mail.Reply.Reply, names.Names.Names, record.Record.Record}, Records.number_in, Serving.changed_at}, proofs.Facts.by_name}
-use Rattle.exec_invariants.{specs.Names.{held_count, IsAlike}, proofs.{HeldCounts.held_removed, Watching.{Watched, Rewatched}, Orders.{Eases, past_removed, alike_self}}}
-use Rattle.exec_machine.specs.Tests.{is_resolved}
+use Rattle.exec_invariants.{proofs.{Names.{◌≡◌, ◌≢◌, ◌+◌, ◌^◌, ◌<◌, Some, None, IsSome, refl, sym, ap, ◌∙◌, arith, is_some, List, slice_get, true, subst, false, ◌⊎◌, inl, false≢true, length-set, IsPast, Slab, value_at, removed, freed, Id, Changed-set, IsLiveAt-from_value, Updates-free, live_within, past-free, was_live, RequestOutput, waiter_at, pending_count, flying_count, is_flying, tick_of, awaits_tick, waiter_of, Entry, Ready, Waiter, WaiterId, OneChanged, one_removed, pending_is, flying_is, is_among, Driving, Reply, Names, Record, number_in, changed_at, by_name, is_resolved}, HeldCounts.held_removed, Watching.{Watched, Rewatched}, Orders.{Eases, past_removed, alike_self}}, specs.Names.{held_count, IsAlike}}
 
 module _ (s : Slab (Entry Reply Reply)) (id : Id) (told : RequestOutput) (at : value_at s id ≡ Some (Ready told)) where
   gone : OneChanged s (removed s id) id None None
@@ -21,13 +13,11 @@ module _ (s : Slab (Entry Reply Reply)) (id : Id) (told : RequestOutput) (at : v
 
   pub same_pending : pending_count (removed s id) ≡ pending_count s
   same_pending =
-      let n = gone.numbers is_some refl in
-      pending_is (removed s id) ∙ omega (arith, n) ∙ sym (pending_is s)
+      pending_is (removed s id) ∙ omega (arith, gone.numbers is_some refl) ∙ sym (pending_is s)
 
   pub same_flying : flying_count (removed s id) ≡ flying_count s
   same_flying =
-      let n = gone.numbers is_flying refl in
-      flying_is (removed s id) ∙ omega (arith, n) ∙ sym (flying_is s)
+      flying_is (removed s id) ∙ omega (arith, gone.numbers is_flying refl) ∙ sym (flying_is s)
 
   pub one_held_less : held_count (removed s id) + 1 ≡ held_count s
   one_held_less = held_removed s id (Ready told) at
@@ -46,8 +36,7 @@ module _ (s : Slab (Entry Reply Reply)) (id : Id) (told : RequestOutput) (at : v
   still_there x apart =
       let was = was_live s id there in
       let live = IsLiveAt-from_value s.slots id.index id.generation s.first there in
-      let map = Updates-free s (removed s id) id was.0 (Changed-set s (removed s id) id.index (freed id.generation) refl refl (live_within s.slots id.index id.generation live.value live.is)) was.1 in
-      map.others x apart
+      (Updates-free s (removed s id) id was.0 (Changed-set s (removed s id) id.index (freed id.generation) refl refl (live_within s.slots id.index id.generation live.value live.is)) was.1).others x apart
 
   -- a name that is past was so
   pub past_back : id.generation < 2 ^ 64 → (x : Id) → IsPast (removed s id) x → IsPast s x

@@ -1,14 +1,5 @@
 -- What a closing worker lets go next, as the machine's worker finds it by its slots.
-use Rattle.std.proofs.{Common.{◌≡◌, ℕ, zero, suc, ◌+◌, ◌<◌, Bool, true, false, cond, List, [], ◌∷◌, count_by, map, option_map, Option, Some, None, IsSome, refl, sym, ap, subst, ◌∙◌, arith, slice_get, slice_index_or, if◌then◌else◌}, lemmas.{Bool.{eq-eqb, false≢true}, List.Sums.sum_by-cons, Option.{get_or_from_slice_get, slice_get-map}}}
-use Rattle.exec_base.specs.{Slab.{Slab, is_live, live_count, value_at}, declared.slab.{Id.Id, Slot.{Slot, TheVariants.{Live, Vacant, Retired}}}}
-use Rattle.exec_time.specs.declared.timers.Sleeper.{Sleeper as Sleeping}
-use Rattle.exec_waiters.{specs.{Events.IsFirstHeld, States.{is_held, is_held_at}, declared.waiter.Entry.{Entry, TheVariants.{Pending, Ready}}}}
-use Rattle.exec_task.specs.declared.body.Said.{Said}
-use Rattle.exec_machine.specs.{Progress.Plan, Tests.is_asleep, World.{no_request, no_sleeper, request_of, sleeper_of}}
-use Rattle.exec_moves.specs.{declared.{place.{Place.Place}}, Close.{after_letting_go, first_asleep, first_held}, Slots.first_in}
-use Rattle.exec_parts.{specs.{declared.parts.{mail.Reply.Reply, record.Record.Record, shared.Shared.Shared, sleeping.SleeperRecord.SleeperRecord, worker.Worker.Worker}, Ending.ClosesOn, Records.number_in, Spots.Spot, View.{Views, common_of, desk_of, driver_of, slots_from}}, proofs.Facts.same_Some}
-use Rattle.exec_invariants.{specs.Sound.SoundAt}
-use Rattle.exec_invariants.proofs.Slotted.{live_at}
+use Rattle.exec_invariants.{proofs.{Names.{◌≡◌, ℕ, zero, suc, ◌+◌, ◌<◌, Bool, true, false, cond, List, [], ◌∷◌, count_by, map, option_map, Option, Some, None, IsSome, refl, sym, ap, subst, ◌∙◌, arith, slice_get, slice_index_or, if◌then◌else◌, eq-eqb, false≢true, sum_by-cons, get_or_from_slice_get, slice_get-map, Slab, is_live, live_count, value_at, Id, Slot, Live, Vacant, Retired, Sleeping, IsFirstHeld, is_held, is_held_at, Entry, Pending, Ready, Said, Plan, is_asleep, no_request, no_sleeper, request_of, sleeper_of, Place, after_letting_go, first_asleep, first_held, first_in, Reply, Record, Shared, SleeperRecord, Worker, ClosesOn, number_in, Spot, Views, common_of, desk_of, driver_of, slots_from, same_Some}, Slotted.live_at}, specs.Sound.SoundAt}
 
 -- THE FIRST BY SLOTS
 

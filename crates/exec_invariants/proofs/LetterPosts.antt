@@ -1,11 +1,5 @@
 -- A MESSAGE ABOUT WHAT A WORKER HAS comes into its inbox, which is open: its seat then, and what is seen of that.
-use Rattle.std.proofs.{Common.{◌≡◌, ◌++◌, ◌+◌, ◌≤◌, ℕ, Bool, true, false, not, List, [], ◌∷◌, append_assoc, cond, count_by, length, map, Some, refl, sym, ap, ◌∙◌, arith, slice_get, slice_set, if◌then◌else◌}, lemmas.{Bool.false≢true, List.{length-append, map-append, Sums.sum_by-append}}}
-use Rattle.exec_words.specs.{Inbox.{has_any, is_wake_root, opens_batch, word_after}, Word.{next_batch}, declared.word.PureWord.PureWord}
-use Rattle.exec_machine.specs.{declared.state.MailMessage.{MailMessage, TheVariants.{ForwardRequest, ForwardTimer, CancelRequest, CancelTimer}}, Mail.{is_root_message, posted as seat_posted}}
-use Rattle.exec_moves.specs.{Send.{asks, posted, published_if}, State.{Things, word_of}, Thing.{mailbox_of, set_mailbox}}
-use Rattle.exec_parts.specs.{declared.parts.{seat.Seat.Seat as Chair, shared.Shared.Shared}, Pooled.{asks_if_sent, chair_sent}, View.{Views, Visible, inbox_at, mail_of, message_of, polls_seen, queue_at, seat_seen, things_with, word_at}}
-use Rattle.exec_invariants.proofs.Showing.{own_word_seen}
-use Rattle.exec_invariants.{specs.{Holding.{Mail}, Spares.SparesChair}, proofs.{Posting.{inbox_seen, none_seen, posted_both}}}
+use Rattle.exec_invariants.{proofs.{Names.{◌≡◌, ◌++◌, ◌+◌, ◌≤◌, ℕ, Bool, true, false, not, List, [], ◌∷◌, append_assoc, cond, count_by, length, map, Some, refl, sym, ap, ◌∙◌, arith, slice_get, slice_set, if◌then◌else◌, false≢true, length-append, map-append, sum_by-append, has_any, is_wake_root, opens_batch, word_after, next_batch, PureWord, MailMessage, ForwardRequest, ForwardTimer, CancelRequest, CancelTimer, is_root_message, seat_posted, asks, posted, published_if, Things, word_of, mailbox_of, set_mailbox, Chair, Shared, asks_if_sent, chair_sent, Views, Visible, inbox_at, mail_of, message_of, polls_seen, queue_at, seat_seen, things_with, word_at}, Showing.own_word_seen, Posting.{inbox_seen, none_seen, posted_both}}, specs.{Holding.Mail, Spares.SparesChair}}
 
 -- it isn't about the root
 pub record IsLetter (m : MailMessage) : Type 0 where

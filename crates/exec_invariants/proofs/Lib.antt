@@ -1,3 +1,5 @@
+pub mod Words
+mod Names
 pub mod Taken
 pub mod Showing
 pub mod Leaves
@@ -25,7 +27,6 @@ pub mod Idling
 pub mod Standing
 pub mod Flagging
 pub mod Serving
-pub mod Woken
 pub mod Keys
 pub mod Going
 pub mod Changing
@@ -35,7 +36,6 @@ pub mod Carrying
 pub mod Carries
 pub mod Conveying
 pub mod Expiring
-pub mod Expired
 pub mod Cancelling
 pub mod Starting
 pub mod Firing
@@ -119,7 +119,6 @@ pub mod PushLeads
 pub mod Hinting
 pub mod ServedEnds
 pub mod RootMail
-pub mod BoxBegan
 pub mod CallsBack
 pub mod LetsNext
 pub mod GateLines
@@ -144,9 +143,7 @@ pub mod Unclosed
 pub mod TaskWants
 pub mod LetSlab
 pub mod LetRooted
-pub mod LetTouched
 pub mod LetKept
-pub mod LetGone
 pub mod TaskLooks
 pub mod LetSeen
 pub mod LetShown
@@ -162,14 +159,11 @@ pub mod TaskGot
 pub mod TaskNewest
 pub mod FiringNames
 pub mod TaskOverLets
-pub mod FiringGone
 pub mod FiringRemoved
 pub mod HandedOver
-pub mod ServedHolders
 pub mod MailApplied
 pub mod TaskOverPlaces
 pub mod ServingPlaces
 pub mod ServingHolds
 pub mod SparedRecord
 pub mod ClosesPool
-pub mod LetPending

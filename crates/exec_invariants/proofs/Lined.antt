@@ -1,12 +1,6 @@
 -- Who stands at gates, as records change: what counts there is a request's key, its kind and open, and whether it waits for the
 -- permit; and that one that is over stays so.
-use Rattle.std.proofs.{Common.{◌≡◌, ℕ, zero, suc, ◌≤◌, ◌<◌, ◌+◌, ◌^◌, ◌==◌, ◌&&◌, Bool, true, false, List, [], ◌∷◌, cond, count_by, length, map, Option, Some, None, IsSome, option_map, refl, sym, ap, subst, ◌∙◌, slice_get, if◌then◌else◌}, Math.Seq.map-set_same, lemmas.{List.Recursion.is_count_by, Bool.false≢true, Option.{get_or_from_slice_get, slice_get-map}}}
-use Rattle.std.proofs.Common.{arith}
-use Rattle.exec_outcomes.specs.Accounts.{is_durable}
-use Rattle.exec_opens.specs.{Opens.OpenState, declared.opens.WaiterKey.WaiterKey}
-use Rattle.exec_machine.specs.Tests.{is_of_file, is_resolved, is_unsent, is_gated}
-use Rattle.exec_parts.{specs.{declared.parts.record.Record.Record, Serving.{changed_in, changed_at, flies, flown_in}, View.{gate_seen, number_of_key, numbers_of_passing}}}
-use Rattle.exec_invariants.{specs.{Gates.{AreLinedUp, AtGate, HaveGates, IsLinedUp, at_gate, has_hint_at, is_coming, line_at, key_for}, Places.Drops}, proofs.Marking.{marked, mark_if}}
+use Rattle.exec_invariants.{proofs.{Names.{◌≡◌, ℕ, zero, suc, ◌≤◌, ◌<◌, ◌+◌, ◌^◌, ◌==◌, ◌&&◌, Bool, true, false, List, [], ◌∷◌, cond, count_by, length, map, Option, Some, None, IsSome, option_map, refl, sym, ap, subst, ◌∙◌, slice_get, if◌then◌else◌, map-set_same, is_count_by, false≢true, get_or_from_slice_get, slice_get-map, arith, is_durable, OpenState, WaiterKey, is_of_file, is_resolved, is_unsent, is_gated, Record, changed_in, changed_at, flies, flown_in, gate_seen, number_of_key, numbers_of_passing, false_from_ne_true}, Marking.{marked, mark_if}}, specs.{Gates.{AreLinedUp, AtGate, HaveGates, IsLinedUp, at_gate, has_hint_at, is_coming, line_at, key_for}, Places.Drops}}
 
 -- LISTS
 
@@ -65,12 +59,10 @@ lines_changed rs k r f there same =
     record {
       at = ap (λ o. map at_gate (changed_in rs k f o)) there ∙ map-set_same at_gate rs k (f r) r (same.at ∙ ap at_gate (sym (get_or_from_slice_get rs k r r there)));
       over = λ j x x' at at' over.
-          let now : x' ≡ mark_if f (k == j) x = some_same (sym at' ∙ marked f rs k j x at) in
-          subst (λ y. is_resolved y.shown.phase ≡ true) (sym now) (by j x (k == j) refl at over);
+          subst (λ y. is_resolved y.shown.phase ≡ true) (sym (some_same (sym at' ∙ marked f rs k j x at))) (by j x (k == j) refl at over);
       sent = ap (λ o. map was_sent (changed_in rs k f o)) there ∙ map-set_same was_sent rs k (f r) r (same.sent ∙ ap was_sent (sym (get_or_from_slice_get rs k r r there)));
       forwarded = λ j x x' at at' h.
-          let now : x' ≡ mark_if f (k == j) x = some_same (sym at' ∙ marked f rs k j x at) in
-          subst (λ y. is_unsent y.shown.forwarding ≡ false) (sym now) (still j x (k == j) refl at h);
+          subst (λ y. is_unsent y.shown.forwarding ≡ false) (sym (some_same (sym at' ∙ marked f rs k j x at))) (still j x (k == j) refl at h);
     }
 
 -- one record changed, of which this stays
@@ -106,11 +98,7 @@ module _ (rs rs' : List Record) (keeps : KeepsAt rs rs') where
   now_at k r there = unmapped at_gate rs' k (at_gate r) (ap (λ zs. slice_get zs k) keeps.at ∙ mapped at_gate rs k r there)
 
   going : (k : ℕ) (r r' : Record) → slice_get rs k ≡ Some r → slice_get rs' k ≡ Some r' → is_resolved r'.shown.phase ≡ false → is_resolved r.shown.phase ≡ false
-  going k r r' there there' open_still = by (is_resolved r.shown.phase) refl
-    where
-      by : (b : Bool) → is_resolved r.shown.phase ≡ b → b ≡ false
-      by true is = absurd (false≢true (sym open_still ∙ keeps.over k r r' there there' is))
-      by false is = refl
+  going k r r' there there' open_still = false_from_ne_true (is_resolved r.shown.phase) (λ is. false≢true (sym open_still ∙ keeps.over k r r' there there' is))
 
   line_kept : (file : ℕ) (o : OpenState) → IsLinedUp file o rs → IsLinedUp file o rs'
   line_kept file o line =
@@ -130,8 +118,7 @@ module _ (rs rs' : List Record) (keeps : KeepsAt rs rs') where
       let old = was k r there in
       line.held k old.0 old.1 (ap (λ x. is_durable x.kind) old.2 ∙ durable) (ap (λ x. x.target) old.2 ∙ of) (ap (λ x. x.gated) old.2 ∙ ungated) (going k old.0 r old.1 there open_still)
       ∙ ap (λ x. Some x.key) old.2 in
-      let places = subst (λ n. n ≤ o.coming) (count_map (is_coming file o) at_gate rs ∙ ap (count_by (is_coming file o)) (sym keeps.at) ∙ sym (count_map (is_coming file o) at_gate rs')) line.places in
-      assumption (named, durable_so, waits, held, places, line)
+      assumption (named, durable_so, waits, held, subst (λ n. n ≤ o.coming) (count_map (is_coming file o) at_gate rs ∙ ap (count_by (is_coming file o)) (sym keeps.at) ∙ sym (count_map (is_coming file o) at_gate rs')) line.places, line)
 
   pub lined_at : (opens : List OpenState) → AreLinedUp opens rs → AreLinedUp opens rs'
   lined_at opens lined =

@@ -1,10 +1,5 @@
 -- A message of the batch is applied: all together.
-use Rattle.std.proofs.{Common.{◌≡◌, ℕ, ◌+◌, ◌-◌, Bool, false, map, Option, Some, refl, sym, ap, subst, ◌∙◌, arith, slice_get}}
-use Rattle.exec_task.specs.declared.body.Said.{Said}
-use Rattle.exec_machine.specs.{declared.event.Event.{Event, TheVariants.Apply}, Mail.{after_message as made_by, own_after_apply}, Progress.Plan, World.Own as Books}
-use Rattle.exec_moves.specs.{declared.place.{InMail.InMail, Place.Place}, Mail.{after_message, told_by_message}, State.Desk}
-use Rattle.exec_parts.{specs.{declared.parts.{shared.Shared.Shared, worker.Worker.Worker}, Spots.Spot, View.{Views, Visible, common_of, desk_of, message_of, own_of, visible}}}
-use Rattle.exec_invariants.{specs.{Holding.{IsHolding, Mail, box_of, holder_of, nap_of, thing_of}, Sound.{SoundAt}, Whole.{IsWhole, Profile, hands_of, with_worker}, Works.{Steps, Suits}}, proofs.{Aside.profile_same, Hearing.unheard, Lined.{KeepsLines, gates_kept}, Seeing.things_kept, ServingHolds.{KeepsSpare, OthersKept}, Serving.{SparesRecords, spares_service}, MailApplies.{applied_sound, rest_of, passed_on, AppliedKeeps, Leads, leads, profile_there, applied_works}}}
+use Rattle.exec_invariants.{proofs.{Names.{◌≡◌, ℕ, ◌+◌, ◌-◌, Bool, false, map, Option, Some, refl, sym, ap, subst, ◌∙◌, arith, slice_get, Said, Event, Apply, made_by, own_after_apply, Plan, Own as Books, InMail, Place, after_message, told_by_message, Desk, Shared, Worker, Spot, Views, Visible, common_of, desk_of, message_of, own_of, visible}, Aside.profile_same, Hearing.unheard, Lined.{KeepsLines, gates_kept}, Seeing.things_kept, ServingHolds.{KeepsSpare, OthersKept}, Serving.{SparesRecords, spares_service}, MailApplies.{applied_sound, rest_of, passed_on, AppliedKeeps, Leads, leads, profile_there, applied_works}}, specs.{Holding.{IsHolding, Mail, box_of, holder_of, nap_of, thing_of}, Sound.SoundAt, Whole.{IsWhole, Profile, hands_of, with_worker}, Works.{Steps, Suits}}}
 
 -- ALL TOGETHER
 
@@ -58,7 +53,6 @@ module _ {B L : Type 0} (left : B → L) (spot : L → Option Said → Spot) whe
       let w0 : Worker = touched w v in
       let w1 : Worker = record (passed_on w0) { place = q' } in
       let s1 : Shared B = record s { requests = s'.requests; sleepers = s'.sleepers } in
-      let after : SoundAt q' w1 s1 = applied_sound applied taken w v s s' sound spares keeps in
       let shared : OthersKept s s1 = refl in
       let done : Steps left spot w s (Apply (message_of mail)) w1 s1 = (
         (λ p vs suits.
@@ -69,16 +63,15 @@ module _ {B L : Type 0} (left : B → L) (spot : L → Option Said → Spot) whe
             (things_kept vs w.index (visible w) (visible w1) s s1 suits.seen (ap (λ (x : Visible). x.wakes) see.shows) shared spares)
             (own_led applied taken w0 q' sound.here to ∙ ap (λ (o : Books). record o { serving = false }) see.own)
             see.common),
-        after,
+        applied_sound applied taken w v s s' sound spares keeps,
         unheard refl refl refl,
         record {
           spares = λ j other. spares_service w.index j s s1 other shared spares keeps.carried.room;
           whole = λ others whole.
               let u : Worker = passed_on w0 in
-              let x = with_worker others w in
               let xu = with_worker others u in
               rw (profile_same others u w1 (profile_there applied taken w u w1 sound.here refl refl to))
-              (whole_applied x xu.mail xu.wakes s s' spares.lines (holds others whole) whole);
+              (whole_applied (with_worker others w) xu.mail xu.wakes s s' spares.lines (holds others whole) whole);
         },
       ) in
       subst (λ y. Steps left spot w s y w' s') (sym event) (subst (λ y. Steps left spot w s (Apply (message_of mail)) y s') (sym worker) (subst (λ z. Steps left spot w s (Apply (message_of mail)) w1 z) (sym kept) done))

@@ -1,13 +1,5 @@
 -- A MESSAGE OF THE BATCH IS APPLIED: what that is to the machine, whatever the message does, and where the worker goes on.
-use Rattle.std.proofs.{Common.{◌≡◌, ℕ, zero, suc, ◌+◌, ◌-◌, ◌<◌, ◌||◌, nat_le, Bool, true, false, cond, Contains, List, [], ◌∷◌, ◌++◌, drop, length, map, Option, Some, None, refl, sym, ap, subst, ◌∙◌, arith, slice_get, slice_set, if◌then◌else◌}, lemmas.{Bool.{false≢true, Decides.nat_tests}, List.Sums.sum_by-append}}
-use Rattle.std.proofs.lemmas.Bool.{or_parts}
-use Rattle.exec_base.specs.Slab.{live_count}
-use Rattle.exec_waiters.specs.States.{pending_count}
-use Rattle.exec_task.specs.declared.body.Said.{Said}
-use Rattle.exec_machine.specs.{declared.{event.Event.TheVariants.Apply, state.{MailMessage.{MailMessage}, Next.Next}}, Choice.Choice.Plain, Mail.{after_message as made_by, is_first_message, own_after_apply}, Progress.Plan, Ranges.ring_size, Same.same_message, Tests.is_empty, World.{seat_of}}
-use Rattle.exec_moves.specs.{declared.place.{InMail.InMail, Place.Place}, Mail.{after_message, to_callbacks, told_by_message}, Move.move_at, Seen.{next_at, polls_at, serves_at}}
-use Rattle.exec_parts.{specs.{declared.parts.{mail.Subject.Subject, seat.Seat.Seat as Chair, shared.Shared.Shared, worker.Worker.Worker}, Calls.IsTold, Spots.Spot, View.{Views, Visible, common_of, desk_of, driver_of, message_of, own_of, owed_at, polls_seen, raised_times, seat_seen, seats_seen, things_with, visible, with_view}}, proofs.Facts.{same_Some, true_false}}
-use Rattle.exec_invariants.{specs.{Carried.IsCarried, Due.IsDue, Flown.HasFlown, Gates.{AreLinedUp, IsKnown}, Holding.{Mail, mail_in, mail_of_letters, same_mail}, Places.{begins_at, claims_at, drops_at, has_count_at, is_published_at, no_drops, polled_in}, HoldPlaces.spare_at, Rooted.IsRooted, Sound.{AreOver, HasBatch, HasLetters, IsMyMail, SoundAt}, Names.{HasWidth, IsNamed, tellers}, Whole.{Profile, with_worker}, Works.{Suits, Works}}, proofs.{Aside.SameProfile, HoldMail.mail_first, Lined.lined_kept, Resolving.places_fewer, Seats.own_seat, Serving.{SparesRecords, letter_kept, mail_kept}}}
+use Rattle.exec_invariants.{proofs.{Names.{◌≡◌, ℕ, zero, suc, ◌+◌, ◌-◌, ◌<◌, ◌||◌, nat_le, Bool, true, false, cond, Contains, List, [], ◌∷◌, ◌++◌, drop, length, map, Option, Some, None, refl, sym, ap, subst, ◌∙◌, arith, slice_get, slice_set, if◌then◌else◌, false≢true, nat_tests, sum_by-append, or_parts, live_count, pending_count, Said, Apply, MailMessage, Next, Plain, made_by, is_first_message, own_after_apply, Plan, ring_size, same_message, is_empty, seat_of, InMail, Place, after_message, to_callbacks, told_by_message, move_at, next_at, polls_at, serves_at, Subject, Chair, Shared, Worker, IsTold, Spot, Views, Visible, common_of, desk_of, driver_of, message_of, own_of, owed_at, polls_seen, raised_times, seat_seen, seats_seen, things_with, visible, with_view, same_Some, true_false}, Aside.SameProfile, HoldMail.mail_first, Lined.lined_kept, Resolving.places_fewer, Seats.own_seat, Serving.{SparesRecords, letter_kept, mail_kept}}, specs.{Carried.IsCarried, Due.IsDue, Flown.HasFlown, Gates.{AreLinedUp, IsKnown}, Holding.{Mail, mail_in, mail_of_letters, same_mail}, Places.{begins_at, claims_at, drops_at, has_count_at, is_published_at, no_drops, polled_in}, Rooted.IsRooted, Sound.{AreOver, HasBatch, HasLetters, IsMyMail, SoundAt}, Names.{HasWidth, IsNamed, tellers}, Whole.{Profile, with_worker}, Works.{Suits, Works}, HoldPlaces.spare_at}}
 
 pub split_first : {A : Type 0} (xs : List A) (x : A) → slice_get xs 0 ≡ Some x → xs ≡ x ∷ drop 1 xs
 split_first [] x at = absurd (let no : None ≡ Some x = at in cc)
@@ -136,11 +128,7 @@ leads = grind arith
 pub one_less : (others : Profile) (w : Worker) (mail : Mail) → slice_get w.batch.values 0 ≡ Some mail → (k : Mail) → (with_worker others w).mail k ≡ (with_worker others (passed_on w)).mail k + mail_in k (mail ∷ [])
 one_less others w mail first k =
     let weigh : Mail → ℕ = λ other. cond (same_mail k other) 1 0 in
-    let before : mail_in k (mail_of_letters w.letters ++ w.batch.values) ≡ mail_in k (mail_of_letters w.letters) + mail_in k w.batch.values = sum_by-append weigh (mail_of_letters w.letters) w.batch.values in
-    let after : mail_in k (mail_of_letters w.letters ++ rest_of w) ≡ mail_in k (mail_of_letters w.letters) + mail_in k (rest_of w) = sum_by-append weigh (mail_of_letters w.letters) (rest_of w) in
-    let split : mail_in k w.batch.values ≡ mail_in k (mail ∷ rest_of w) = ap (mail_in k) (split_first w.batch.values mail first) in
-    let parts = mail_first k mail (rest_of w) in
-    omega (arith, before, after, split, parts)
+    omega (arith, sum_by-append weigh (mail_of_letters w.letters) w.batch.values, sum_by-append weigh (mail_of_letters w.letters) (rest_of w), ap (mail_in k) (split_first w.batch.values mail first), mail_first k mail (rest_of w))
 
 -- the wake polls are seen as before
 polls_viewed : (vs : List Visible) (seats : List Chair) (i : ℕ) (v mine : Visible) → slice_get vs i ≡ Some mine → v.wakes ≡ mine.wakes → polls_seen (slice_set vs i v) seats ≡ polls_seen vs seats

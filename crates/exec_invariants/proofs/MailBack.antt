@@ -1,12 +1,5 @@
 -- The callbacks: the batch is taken, and items are told that concern nobody else.
-use Rattle.std.proofs.{Common.{map, ◌≡◌, ℕ, [], ◌&&◌, ◌+◌, ◌<◌, ◌-◌, Bool, length, drop, nat_lt, arith, true, false, Option, Some, None, refl, sym, ap, subst, ◌∙◌, if◌then◌else◌}, lemmas.{Bool.Decides.nat_tests, List.length-drop}}
-use Rattle.std.specs.VecDeque.{deque_capacity}
-use Rattle.exec_waiters.specs.{Told.is_untold, declared.deferred.Deferred.Deferred}
-use Rattle.exec_task.specs.declared.body.Said.{Said}
-use Rattle.exec_machine.specs.{declared.{event.Event.{Event, TheVariants.Turn}, state.Next.Next}, After.common_after, Choice.Choice.Plain, Ranges.ring_size, World.{Common, Own as Books}}
-use Rattle.exec_moves.specs.{declared.{handing.{AfterCallbacks.AfterCallbacks, AfterLeave.AfterLeave}, place.{InCallbacks.InCallbacks, Place.Place}}, Callback.{Item.LetsGo, item_next, next_callback}, State.Desk, Move.{move_at, move_item}, Seen.{next_at, polls_at, serves_at}}
-use Rattle.exec_parts.{specs.{declared.parts.{mail.Reply.Reply, shared.Shared.Shared, worker.Worker.Worker}, Calls.{KeepsRoom, IsTold}, Spots.Spot, Tests.{after_callbacks_of, is_anything_told, leave_of, next_callback_of}, View.{common_of, desk_of, driver_of, owed_at, own_of, things_with, visible, with_view}}, proofs.Facts.{not-false, true_false}}
-use Rattle.exec_invariants.{specs.{HoldPlaces.spare_before, Places.{claims_at, drops_at, searches_at, searches_before}, Rooted.IsRooted, Sound.{IsSearching, SoundAt, has_wakes_at}, Names.{HasWidth, tellers}, Works.{Beside, Steps, Suits}}, proofs.{PoolKept.gates_same, Aside.{SameProfile, beside_calm, seats_same, spares_turn, told_on}, CallsBack.{Pushed, To, callback_seen, callbacks_seen, none_left, to_after, to_call}, Counting.{SameHands, Stance, counts_same, stance_at, stance_here, whole_counted}, Hearing.unheard, Idled.{Fares, Holds, settled}, Turning.{GoesOn, IsTurn, sound_on, turned, view_found}}}
+use Rattle.exec_invariants.{proofs.{Names.{map, ◌≡◌, ℕ, [], ◌&&◌, ◌+◌, ◌<◌, ◌-◌, Bool, length, drop, nat_lt, arith, true, false, Option, Some, refl, sym, ap, subst, ◌∙◌, if◌then◌else◌, nat_tests, length-drop, deque_capacity, is_untold, Deferred, Said, Event, Turn, Next, common_after, Plain, ring_size, Common, Own as Books, AfterCallbacks, AfterLeave, InCallbacks, Place, ItemLetsGo as LetsGo, item_next, next_callback, Desk, move_at, move_item, next_at, polls_at, serves_at, Reply, Shared, Worker, KeepsRoom, IsTold, Spot, after_callbacks_of, is_anything_told, leave_of, next_callback_of, common_of, desk_of, driver_of, owed_at, own_of, things_with, visible, with_view, not-false, true_false}, PoolKept.gates_same, Aside.{SameProfile, beside_calm, seats_same, spares_turn, told_on}, CallsBack.{Pushed, To, callback_seen, callbacks_seen, none_left, to_after, to_call}, Counting.{SameHands, Stance, counts_same, stance_at, stance_here, whole_counted}, Hearing.unheard, Idled.{Fares, Holds, settled}, Turning.{GoesOn, IsTurn, sound_on, turned, view_found}}, specs.{HoldPlaces.spare_before, Places.{claims_at, drops_at, searches_at, searches_before}, Rooted.IsRooted, Sound.{IsSearching, SoundAt, has_wakes_at}, Names.{HasWidth, tellers}, Works.{Beside, Steps, Suits}}}
 
 -- where the batch leads
 abbrev pub from_batch : AfterCallbacks → Worker → Place
@@ -104,13 +97,11 @@ module _ {B : Type 0} where
       let live = tellers (driver_of w).requests w.home.timers in
       let told : IsTold w.names.ended.items left1 (live + spare_before (Some n)) = subst (λ d. IsTold w.names.ended.items d (live + spare_before (Some n))) same (keeps w.names.ended.items (live + spare_before (Some n)) sound.told) in
       let wide : HasWidth left1 (live + 64) = record { wakes = sound.wide.wakes; completions = sound.wide.completions; outputs = rw room sound.wide.outputs; resources = sound.wide.resources; results = sound.wide.results } in
-      let searching : IsSearching (searches_before n) w.searching = idle_before n w.searching sound.searching in
       let quiet : has_wakes_at (Place.Callbacks InCallbacks.TakeBatch n) ≡ false → w.home.deferred.notes.wakes.items ≡ [] = λ h. true_false h in
       let r = sound.rooted in
       let rooted : IsRooted w.index w.names (driver_of w) w.home.timers left1 s.requests.items s.sleepers.items =
-      record { kept = r.kept; ready = r.ready; replies = r.replies; watches = r.watches; pays = r.pays; sleeper_pays = r.sleeper_pays; results = r.results; completions = r.completions; sent = r.sent; sleeper_sent = r.sleeper_sent }
-      in
-      assumption (told, wide, searching, quiet, rooted, sound)
+      record { kept = r.kept; ready = r.ready; replies = r.replies; watches = r.watches; pays = r.pays; sleeper_pays = r.sleeper_pays; results = r.results; completions = r.completions; sent = r.sent; sleeper_sent = r.sleeper_sent } in
+      assumption (told, wide, idle_before n w.searching sound.searching, quiet, rooted, sound)
 
 module _ {B L : Type 0} (left : B → L) (spot : L → Option Said → Spot) where
   taken : (n : AfterCallbacks) (w : Worker) (s : Shared B) → SoundAt (Place.Callbacks InCallbacks.TakeBatch n) w s → Steps left spot w s Turn (record w { place = from_batch n w }) s
@@ -124,8 +115,7 @@ module _ {B L : Type 0} (left : B → L) (spot : L → Option Said → Spot) whe
       let rests : Rests w.workers q' = rests_from w.workers n w in
       let is : IsTurn w.workers q q' = record { polls = ap (λ k. k.polls) to.same; free = refl; free_then = ap (λ k. k.next) to.same; unserved = rests.unserved; owes = rests.owes } in
       let same : SameHands w w' =
-      assumption (ap (λ k. k.polls) to.same ∙ sym (ap polls_at sound.here), ap (λ k. k.claims) to.same ∙ sym (ap claims_at sound.here), ap (λ k. k.drops) to.same ∙ sym (ap drops_at sound.here), told_on w w' s.clock on)
-      in
+      assumption (ap (λ k. k.polls) to.same ∙ sym (ap polls_at sound.here), ap (λ k. k.claims) to.same ∙ sym (ap claims_at sound.here), ap (λ k. k.drops) to.same ∙ sym (ap drops_at sound.here), told_on w w' s.clock on) in
       turned left spot q w w' s s Turn sound refl on refl refl (λ vs. refl) is (settled q q' (stance w) w w' s s sound refl holds refl sound.calm to)
       (record {
         spares = λ j other. spares_turn w.index j s s other refl (seats_same w.index s.seats.items s.seats.items refl);
@@ -147,7 +137,6 @@ module _ {B L : Type 0} (left : B → L) (spot : L → Option Said → Spot) whe
       → w.home.deferred.notes.wakes.items ≡ [] → 0 < length w.home.deferred.outputs.items → left'.outputs.items ≡ drop 1 w.home.deferred.outputs.items
       → Steps left spot w s Turn (record w { place = next_callback_of n (record w { place = Place.Callbacks InCallbacks.TakeBatch n; home = record w.home { deferred = record w.home.deferred { outputs = left'.outputs } } }); home = record w.home { deferred = record w.home.deferred { outputs = left'.outputs } } }) s
   output_let_go n w s left' sound same room keeps none some items =
-      let before : Place = Place.Callbacks InCallbacks.CallBack n in
       let q : Place = Place.Callbacks InCallbacks.TakeBatch n in
       let v : Worker = record w { place = q; home = record w.home { deferred = record w.home.deferred { outputs = left'.outputs } } } in
       let q' : Place = next_callback_of n v in
@@ -155,7 +144,6 @@ module _ {B L : Type 0} (left : B → L) (spot : L → Option Said → Spot) whe
       let there : SoundAt q v s = without_output n w s left' sound same room keeps in
       let to : Fares q q' (stance v) v s = next_fares n v s there sound.searching in
       let rests : Rests w.workers q' = rests_next w.workers n v in
-      let polls : polls_at q' ≡ None = ap (λ k. k.polls) to.same in
       let free : next_at q' ≡ Next.Free = ap (λ k. k.next) to.same in
       let fewer : length w.home.deferred.outputs.items - 1 ≡ length left'.outputs.items = sym (ap length items ∙ length-drop 1 w.home.deferred.outputs.items) in
       let u : Worker = record w { place = q' } in
@@ -170,21 +158,19 @@ module _ {B L : Type 0} (left : B → L) (spot : L → Option Said → Spot) whe
             let size = ring_size p.config in
             let suits_v : Suits p vs v s = record { config = suits.config; seen = suits.seen; workers = suits.workers } in
             let again : with_view vs w.index (visible w') ≡ vs = view_found vs w.index (visible w) suits.seen in
-            let leads : next_callback size w.index (own_of w) cs n d1 ≡ q' = grind (arith, fewer, place_unread size w.index (own_of w) cs n d2 q, callback_seen left spot p vs q v s there suits_v n)
-            in
+            let leads : next_callback size w.index (own_of w) cs n d1 ≡ q' = grind (arith, fewer, place_unread size w.index (own_of w) cs n d2 q, callback_seen left spot p vs q v s there suits_v n) in
             let still : common_after p.config (own_of w) cs w.index Turn Plain ≡ cs = rw sound.here refl in
-            let moved : move_at p.config w.index (own_of w) cs d xs before ≡ record { event = Turn; choice = Plain; desk = desk_of w'; thing = xs } =
+            let moved : move_at p.config w.index (own_of w) cs d xs (Place.Callbacks InCallbacks.CallBack n) ≡ record { event = Turn; choice = Plain; desk = desk_of w'; thing = xs } =
             ap (move_item p.config w.index (own_of w) cs d xs n) (item_let_go (own_of w) d (ap (map (λ t. t.0)) none) (positive d.outputs some))
             ∙ ap (λ y. record { event = Turn; choice = Plain; desk = record d1 { place = y }; thing = xs }) leads
-            ∙ ap (λ k. record { event = Turn; choice = Plain; desk = record d { outputs = k; place = q' }; thing = xs }) fewer
-            in
+            ∙ ap (λ k. record { event = Turn; choice = Plain; desk = record d { outputs = k; place = q' }; thing = xs }) fewer in
             record {
               choice = Plain;
               moves =
                   subst (λ y. move_at p.config w.index (own_of w) cs d xs y ≡ record { event = Turn; choice = Plain; desk = desk_of w'; thing = things_with (with_view vs w.index (visible w')) s }) (sym sound.here)
                   (moved ∙ ap (λ z. record { event = Turn; choice = Plain; desk = desk_of w'; thing = things_with z s }) (sym again));
               may = tt;
-              own = rw (polls, free, rests.unserved, rests.owes, sound.here) refl;
+              own = rw (ap (λ k. k.polls) to.same, free, rests.unserved, rests.owes, sound.here) refl;
               common = ap (λ z. common_of left spot p z s) again ∙ sym still;
             }),
         next_sound n v s there sound.searching,

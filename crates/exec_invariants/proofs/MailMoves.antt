@@ -1,9 +1,6 @@
 -- MESSAGES MOVE between what a worker has in hand and inboxes: the balances of all but of what tasks hold stay.
-use Rattle.std.proofs.{Common.{◌≡◌, ℕ, zero, suc, ◌+◌, ◌<◌, Bool, true, false, cond, Contains, List, [], ◌∷◌, map, Some, refl, sym, ap, subst, ◌∙◌, arith, slice_get, slice_set}, lemmas.List.length-set}
-use Rattle.exec_words.specs.{Reserved.Reserved, declared.inbox.Message.Message}
-use Rattle.exec_parts.{specs.declared.parts.{letters.Letters.Letters, shared.Shared.Shared, worker.Worker.Worker}, proofs.Facts.{by_number, same_Some, set_elsewhere, set_there}}
+use Rattle.exec_invariants.{proofs.{Names.{◌≡◌, ℕ, zero, suc, ◌+◌, ◌<◌, Bool, true, false, cond, Contains, List, [], ◌∷◌, map, Some, refl, sym, ap, subst, ◌∙◌, arith, slice_get, slice_set, length-set, Reserved, Message, Letters, Shared, Worker, by_number, same_Some, set_elsewhere, set_there}, Aside.{HoldsIn, SameProfile, SparesSeats, profile_same, queue_of_chair, spares_turn}, HoldMail.{mail_first, mail_is}, HoldPosts.{SameBox, moved}, HoldRedo.sum_set, PoolKept.KeepsGates, Turning.Shares}, specs.{Holding.{Box, Hands, Holder, IsAbout, IsHolding, Mail, Nap, Thing, mail_in, same_mail, under_way}, Whole.{IsWhole, Profile, with_worker}, Works.Beside}}
 pub use Rattle.exec_invariants.proofs.Aside.{whole_moved}
-use Rattle.exec_invariants.{specs.{Holding.{Box, Hands, Holder, IsAbout, IsHolding, Mail, Nap, Thing, mail_in, same_mail, under_way}, Whole.{IsWhole, Profile, with_worker}, Works.Beside}, proofs.{Aside.{HoldsIn, SameProfile, SparesSeats, profile_same, queue_of_chair, spares_turn}, HoldMail.{mail_first, mail_is}, HoldPosts.{SameBox, moved}, HoldRedo.sum_set, PoolKept.{KeepsGates}, Turning.Shares}}
 
 -- A WORKER TAKES ALL that is in its inbox into its hands
 
@@ -18,8 +15,7 @@ mail_some x (m ∷ ms) some = by (mail_in x (m ∷ [])) refl (λ h. mail_some x 
 
     by : (n : ℕ) → mail_in x (m ∷ []) ≡ n → (0 < mail_in x ms → Contains ms x) → Contains (m ∷ ms) x
     by zero is later =
-        let parts = mail_first x m ms in
-        let it = later (omega (arith, parts, some, is)) in
+        let it = later (omega (arith, mail_first x m ms, some, is)) in
         (suc it.0, (let within = it.1 in omega (arith, within)), it.2)
     by (suc n) is later = here n (same_mail x m) refl is
 
@@ -58,8 +54,7 @@ module _ (h h' : Hands) (workers : ℕ) (hs : List Holder) (ts : List Thing) (na
       by_hand : (m : Mail) (n : ℕ) → h.mail m ≡ n → 0 < h'.mail m → (j : ℕ) × IsAbout workers j m ts naps
       by_hand m (suc n) is some = old.made m (omega (arith, is))
       by_hand m zero is some =
-          let more = by.mail m in
-          (i, old.about i box m by.there (mail_some m box.messages (omega (arith, is, some, more))))
+          (i, old.about i box m by.there (mail_some m box.messages (omega (arith, is, some, by.mail m))))
 
 module _ {B : Type 0} where
   -- a step that leaves all balances but of messages, of which it has this in hand then

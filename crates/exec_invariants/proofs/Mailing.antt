@@ -1,12 +1,5 @@
 -- What the steps at the mailbox are to the machine: another batch is looked for, and what is there is taken.
-use Rattle.std.proofs.{Common.{◌≡◌, ℕ, ◌+◌, ◌*◌, ◌^◌, ◌%◌, ◌<◌, ◌≤◌, Bool, true, false, cond, Contains, List, [], ◌∷◌, ◌++◌, length, map, Option, None, Some, option_map, refl, sym, ap, subst, ◌∙◌, arith, slice_get, slice_set, if◌then◌else◌}, lemmas.{List.{append-nil, length-set, Sums.sum_by-append}, Option.{get_or_from_slice_get, slice_get-map}}}
-use Rattle.exec_words.specs.{Inbox.{Inbox, batch_handed, batch_taken}, Reserved.Reserved, Word.next_batch, declared.word.PureWord.PureWord}
-use Rattle.exec_task.specs.declared.body.Said.{Said}
-use Rattle.exec_machine.specs.{declared.event.Event.{Event, TheVariants.Turn}, Choice.Choice.Plain}
-use Rattle.exec_moves.specs.{declared.place.{InMail.InMail, Place.Place}, Load.has_mail, Mail.{load_mail_word, take_mail, to_callbacks}, Move.move_at, Seen.polls_at, State.{Moved, inbox_of, turns, word_of}, Thing.{set_inbox, with_inbox, with_word}}
-use Rattle.exec_parts.{specs.{declared.parts.{mail.Subject.Subject, seat.Seat.Seat as Chair, shared.Shared.Shared, worker.Worker.Worker}, Phased.{IsPhased, TurnsChair, stage_of}, Pooled.OfChair, MailPosts.IsMailbox, Spots.Spot, View.{Views, Visible, common_of, desk_of, inbox_at, message_of, own_of, seat_seen, things_of, things_with, visible, with_view}, Things.{Goes, Makes}}, proofs.Facts.{same_Some, set_there, true_false}}
-use Rattle.exec_invariants.proofs.Showing.{map_kept, map_set}
-use Rattle.exec_invariants.{specs.{Holding.{IsHolding, Mail, box_of, holder_of, mail_in, mail_of_letters, nap_of, same_mail, thing_of}, Places.{claims_at, drops_at, has_count_at, is_published_at}, Sound.{IsMyMail, IsSeated, SoundAt, AreHome, HasBatch, HasQueue}, Whole.{HasWhole, IsWhole, Profile, hands_of, with_worker}, Works.Steps}, proofs.{AskBoxes.box_there, Aside.{HoldsIn, SameProfile, SparesSeats, beside_calm, queue_of_chair, queues_set, seats_own, seats_same, SameTold}, Dedicated.as_long, Hearing.unheard, Idled.{Fares, Holds, settled}, MailBack.stance, MailMoves.{all_taken, beside_moved}, PoolKept.{gates_same, gates_set}, Turning.{Shares, set_found, turned, word_back_again}, HandedOver.{taken_none, taken_some, handed_none, handed_some, by_list, seats_both, polls_both, my_mail, LeadsOn, told_past}}}
+use Rattle.exec_invariants.{proofs.{Names.{◌≡◌, ℕ, ◌+◌, ◌*◌, ◌^◌, ◌%◌, ◌<◌, ◌≤◌, Bool, true, false, cond, Contains, List, [], ◌∷◌, ◌++◌, length, map, Option, None, Some, option_map, refl, sym, ap, subst, ◌∙◌, arith, slice_get, slice_set, if◌then◌else◌, append-nil, length-set, sum_by-append, get_or_from_slice_get, slice_get-map, Inbox, batch_handed, batch_taken, Reserved, next_batch, PureWord, Said, Event, Turn, Plain, InMail, Place, has_mail, load_mail_word, take_mail, to_callbacks, move_at, polls_at, Moved, inbox_of, turns, word_of, set_inbox, with_inbox, with_word, Subject, Chair, Shared, Worker, IsPhased, TurnsChair, stage_of, OfChair, IsMailbox, Spot, Views, Visible, common_of, desk_of, inbox_at, message_of, own_of, seat_seen, things_of, things_with, visible, with_view, Goes, Makes, same_Some, set_there, true_false}, Showing.{map_kept, map_set}, AskBoxes.box_there, Aside.{HoldsIn, SameProfile, SparesSeats, beside_calm, queue_of_chair, queues_set, seats_own, seats_same, SameTold}, Dedicated.as_long, Hearing.unheard, Idled.{Fares, Holds, settled}, MailBack.stance, MailMoves.{all_taken, beside_moved}, PoolKept.{gates_same, gates_set}, Turning.{Shares, set_found, turned, word_back_again}, HandedOver.{taken_none, taken_some, handed_none, handed_some, by_list, seats_both, polls_both, my_mail, LeadsOn, told_past}}, specs.{Holding.{IsHolding, Mail, box_of, holder_of, mail_in, mail_of_letters, nap_of, same_mail, thing_of}, Places.{claims_at, drops_at, has_count_at, is_published_at}, Sound.{IsMyMail, IsSeated, SoundAt, AreHome, HasBatch, HasQueue}, Whole.{HasWhole, IsWhole, Profile, hands_of, with_worker}, Works.Steps}}
 
 below : (n : ℕ) → n % 2 ^ 29 < 2 ^ 29
 below n = omega arith
@@ -35,25 +28,21 @@ module _ {B : Type 0} where
   sound_taken w s s' batch n seat' sound items mail waker pool queue made closed stage few some places mine =
       let seat = sound.seated.seat in
       let there = sound.seated.there in
-      let q' : Place = Place.Mail (InMail.Apply 0 true) in
       let found : slice_get s'.seats.items w.index ≡ Some seat' = ap (λ xs. slice_get xs w.index) items ∙ set_there s.seats.items w.index seat' seat there in
       let is : (chair : Chair) → slice_get s'.seats.items w.index ≡ Some chair → seat' ≡ chair = λ chair at. same_Some seat' chair (sym found ∙ at) in
       let many : length s'.seats.items ≡ length s.seats.items = ap length items ∙ length-set s.seats.items w.index seat' in
       let seated1 : IsSeated w.index false s.config.workers s'.seats.items = record { many = as_long many sound.seated.many; pool = pool ∙ sound.seated.pool; seat = seat'; there = found; unarmed = λ h. ap (λ (x : PureWord). x.target) waker ∙ sound.seated.unarmed h; mail = mail } in
       let homes : AreHome s.config.workers (length s'.seats.items) s.tasks.items = rw many sound.homes in
-      let queue : (chair : Chair) → slice_get s'.seats.items w.index ≡ Some chair → HasQueue q' chair.queue =
-      λ chair at. subst (λ (c : Chair). c.queue.held ≡ []) (is chair at) (ap (λ q. q.held) queue ∙ sound.queue seat there)
-      in
+      let queue : (chair : Chair) → slice_get s'.seats.items w.index ≡ Some chair → HasQueue (Place.Mail (InMail.Apply 0 true)) chair.queue =
+      λ chair at. subst (λ (c : Chair). c.queue.held ≡ []) (is chair at) (ap (λ q. q.held) queue ∙ sound.queue seat there) in
       let aims : 0 < 64 = omega arith in
       let batch_place : (chair : Chair) → slice_get s'.seats.items w.index ≡ Some chair → chair.mailbox.inbox.closed ≡ false → 2 * chair.made + 1 ≤ batch.places =
-      λ chair at open_box. subst (λ (c : Chair). 2 * c.made + 1 ≤ batch.places) (is chair at) (subst (λ k. 2 * k + 1 ≤ batch.places) (sym made) places)
-      in
+      λ chair at open_box. subst (λ (c : Chair). 2 * c.made + 1 ≤ batch.places) (is chair at) (subst (λ k. 2 * k + 1 ≤ batch.places) (sym made) places) in
       let quiet : true ≡ false → w.home.deferred.notes.wakes.items ≡ [] = λ h. true_false h in
       let phased : (chair : Chair) → slice_get s'.seats.items w.index ≡ Some chair → IsPhased w.index false None w.home.closing w.root w.names.unreleased (stage_of chair s) s.tasks.items =
       λ chair at.
       subst (λ c. IsPhased w.index false None w.home.closing w.root w.names.unreleased (stage_of c s) s.tasks.items) (is chair at)
-      (subst (λ st. IsPhased w.index false None w.home.closing w.root w.names.unreleased st s.tasks.items) (sym stage) (sound.phased seat there))
-      in
+      (subst (λ st. IsPhased w.index false None w.home.closing w.root w.names.unreleased st s.tasks.items) (sym stage) (sound.phased seat there)) in
       assumption (homes, seated1, queue, few, aims, some, mine, batch_place, quiet, phased, tt, sound)
 
   -- or with none
@@ -64,10 +53,9 @@ module _ {B : Type 0} where
       let queue : (chair : Chair) → slice_get s'.seats.items w.index ≡ Some chair → HasQueue to_callbacks chair.queue = rw same sound.queue in
       let place : (chair : Chair) → slice_get s'.seats.items w.index ≡ Some chair → chair.mailbox.inbox.closed ≡ false → 2 * chair.made + 1 ≤ w.batch.places = rw same sound.batch_place in
       let phased : (chair : Chair) → slice_get s'.seats.items w.index ≡ Some chair → IsPhased w.index false None w.home.closing w.root w.names.unreleased (stage_of chair s) s.tasks.items = rw same sound.phased in
-      let told = told_past w 64 0 (omega arith) sound.told in
       let batch : HasBatch to_callbacks w.batch.values = λ h. sound.batch in
       let quiet : true ≡ false → w.home.deferred.notes.wakes.items ≡ [] = λ h. true_false h in
-      assumption (homes, seated, queue, place, phased, told, batch, quiet, tt, sound)
+      assumption (homes, seated, queue, place, phased, told_past w 64 0 (omega arith) sound.told, batch, quiet, tt, sound)
 
 module _ {B L : Type 0} (left : B → L) (spot : L → Option Said → Spot) where
   -- THE WAKE WORD
@@ -84,11 +72,10 @@ module _ {B L : Type 0} (left : B → L) (spot : L → Option Said → Spot) whe
       leads : (q' : Place) → LeadsOn w.workers q q' → Fares q q' (stance w) w s → load_mail_word (desk_of w) word ≡ turns q' (desk_of w) word → Steps left spot w s e w' s
       leads q' on to how =
           let w1 : Worker = record w { place = q' } in
-          let goes1 : w' ≡ w1 = goes ∙ ap (λ y. record w { place = y }) (ap (λ d. d.place) makes.desk ∙ ap (λ m. m.desk.place) how) in
           let holds : Holds w w1 = record { root_ready = refl; hand = refl; loot = refl } in
           let told : SameTold w w1 = record { batch = refl; letters = refl; left = refl } in
           let alike : SameProfile w w1 = assumption (on.turn.polls ∙ sym (ap polls_at sound.here), on.claims ∙ sym (ap claims_at sound.here), on.counts ∙ sym (ap has_count_at sound.here), on.published ∙ sym (ap is_published_at sound.here), on.drops ∙ sym (ap drops_at sound.here), told) in
-          subst (λ v. Steps left spot w s e v s) (sym goes1)
+          subst (λ v. Steps left spot w s e v s) (sym (goes ∙ ap (λ y. record w { place = y }) (ap (λ d. d.place) makes.desk ∙ ap (λ m. m.desk.place) how)))
           (turned left spot q w w1 s s e sound (makes.event ∙ ap (λ m. m.event) how) (record { same = refl; read = sound.time.read; asleep = sound.time.asleep }) refl refl (λ vs. refl) on.turn
           (settled q q' (stance w) w w1 s s sound refl holds refl sound.calm to)
           (beside_calm w w1 s s alike refl (seats_same w.index s.seats.items s.seats.items refl) (gates_same s.seats.items s.seats.items refl) refl refl refl refl)
@@ -177,13 +164,12 @@ module _ {B L : Type 0} (left : B → L) (spot : L → Option Said → Spot) whe
       ap (take_mail (desk_of w)) (seen ∙ ap (λ xs. map message_of xs) is) ∙ ap (λ xs. turns q' (record (desk_of w) { batch = map message_of xs; processed = n }) []) (sym is) in
       let items : s'.seats.items ≡ slice_set s.seats.items w.index seat' = turns_chair seat there ∙ ap (λ i. slice_set s.seats.items w.index (record seat { mailbox = record seat.mailbox { inbox = i } })) taken in
       let mail : IsMailbox seat'.mailbox = record { roots = omega arith; empty = λ h. refl; place = λ h. omega (arith, places) } in
-      let some_there : 0 < length inbox.messages = subst (λ xs. 0 < length xs) (sym is) (omega arith) in
       let at_box = box_there s.seats.items w.index seat there in
       let room : 2 * seat.made + 1 ≤ inbox.places = (has.whole.holding.room w.index (box_of seat) at_box).places open_box in
       by_desk q' new n (batch seat there ∙ handed_some inbox w.batch m ms is) how
       (handed q' new n seat' w s s' sound (record { turn = record { polls = refl; free = refl; free_then = refl; unserved = refl; owes = refl }; claims = refl; counts = refl; published = refl; drops = refl })
       (append-nil (map message_of inbox.messages) ∙ ap (λ vs. map message_of vs ++ map message_of inbox.messages) (sym sound.batch)) refl refl refl mail items kept how
-      (sound_taken w s s' new n seat' sound items mail refl refl refl refl refl refl (below (w.processed + 1)) some_there room
+      (sound_taken w s s' new n seat' sound items mail refl refl refl refl refl refl (below (w.processed + 1)) (subst (λ xs. 0 < length xs) (sym is) (omega arith)) room
       (λ x among. my_mail s.config.workers w.index x s.requests.items s.sleepers.items (has.whole.holding.about w.index (box_of seat) x at_box among)))
       (λ others whole.
       let x = with_worker others w in
@@ -197,10 +183,7 @@ module _ {B L : Type 0} (left : B → L) (spot : L → Option Said → Spot) whe
         wakes = refl;
         mail = λ k.
             let weigh : Mail → ℕ = λ other. cond (same_mail k other) 1 0 in
-            let before = sum_by-append weigh (mail_of_letters w.letters) w.batch.values in
-            let after : mail_in k (mail_of_letters w.letters ++ inbox.messages) ≡ mail_in k (mail_of_letters w.letters) + mail_in k inbox.messages = sum_by-append weigh (mail_of_letters w.letters) inbox.messages in
-            let gone : mail_in k w.batch.values ≡ 0 = ap (mail_in k) sound.batch in
-            omega (arith, before, after, gone);
+            omega (arith, sum_by-append weigh (mail_of_letters w.letters) w.batch.values, sum_by-append weigh (mail_of_letters w.letters) inbox.messages, ap (mail_in k) sound.batch);
       })
       whole.holding))) in
       by_list inbox.messages nothing some

@@ -1,16 +1,5 @@
 -- A record that is marked, as released or as one that has paid: what is named by it stays.
-use Rattle.std.{proofs.{Common.{◌≡◌, ℕ, ◌==◌, Bool, true, false, List, [], ◌∷◌, length, Option, Some, None, refl, sym, ap, subst, ◌∙◌, slice_get, if◌then◌else◌}, lemmas.List.length-set}, specs.{Option.option_map, Prelude.IsSome}}
-use Rattle.std.proofs.Common.{arith}
-use Rattle.exec_base.specs.{Slab.{Slab, value_at}, declared.slab.Id.Id}
-use Rattle.exec_time.specs.declared.timers.Sleeper.{Sleeper as Sleeping}
-use Rattle.exec_ring.specs.Rings.{RingState}
-use Rattle.exec_waiters.specs.{States.waiter_at, declared.waiter.Waiter.Waiter}
-use Rattle.exec_driver.specs.Driving.{Driving}
-use Rattle.exec_machine.specs.{declared.config.Configuration.Configuration, Tests.{is_resolved, is_staged}}
-use Rattle.exec_moves.specs.declared.place.InService.{InService}
-use Rattle.exec_parts.specs.{declared.parts.{mail.Reply.Reply, names.Names.Names, record.Record.Record, sleeping.SleeperRecord.SleeperRecord, worker.Moments.Moments}, Calls.{as_sent, paying, releasing}, Records.number_in, Serving.{AreKnown, changed_in, changed_at, is_one_of}}
-use Rattle.exec_invariants.proofs.Flying.{get_changed}
-use Rattle.exec_invariants.{specs.{Flown.IsPlain, Names.{IsNamed, IsAlike, IsSubmitted}, Due.{IsDue, IsTimed, AreTimed}}}
+use Rattle.exec_invariants.{proofs.{Names.{◌≡◌, ℕ, ◌==◌, Bool, true, false, List, [], ◌∷◌, length, Option, Some, None, refl, sym, ap, subst, ◌∙◌, slice_get, if◌then◌else◌, length-set, option_map, IsSome, arith, Slab, value_at, Id, Sleeping, RingState, waiter_at, Waiter, Driving, Configuration, is_resolved, is_staged, InService, Reply, Names, Record, SleeperRecord, Moments, as_sent, paying, releasing, number_in, AreKnown, changed_in, changed_at, is_one_of, RequestPhase}, Flying.get_changed}, specs.{Flown.IsPlain, Names.{IsNamed, IsAlike, IsSubmitted}, Due.{IsDue, IsTimed, AreTimed}}}
 
 -- A mark changes only what was paid and released, and that its end was sent elsewhere.
 abbrev pub Marks : (Record → Record) → Type 0
@@ -66,15 +55,23 @@ module _ (f : Record → Record) (rs : List Record) (q : ℕ) where
       → (k : ℕ) (x : Record) → slice_get (changed_at rs q f) k ≡ Some x → x.shown.worker ≡ i → IsPlain x.shown
   plain_kept keeps i same plain k x there mine =
       let old = was_marked k x there in
-      subst (λ y. IsPlain y.shown) (sym old.2) (by (q == k) old.0 (plain k old.0 old.1 (sym (worker_same (q == k) old.0) ∙ sym (ap (λ y. y.shown.worker) old.2) ∙ mine)))
+      subst (λ y. IsPlain y.shown) (sym old.2) (by (q == k) old.0 (plain k old.0 old.1 (sym (mark_kept ℕ (λ y. y.shown.worker) f same (q == k) old.0) ∙ sym (ap (λ y. y.shown.worker) old.2) ∙ mine)))
     where
-      worker_same : (b : Bool) (r : Record) → (mark_if f b r).shown.worker ≡ r.shown.worker
-      worker_same true r = same r
-      worker_same false r = refl
-
       by : (b : Bool) (r : Record) → IsPlain r.shown → IsPlain (mark_if f b r).shown
       by true r p = keeps r p
       by false r p = p
+
+  -- what is submitted is so still, where the worker and the phase stay
+  pub submitted_kept : ((r : Record) → (f r).shown.worker ≡ r.shown.worker) → ((r : Record) → (f r).shown.phase ≡ r.shown.phase) → (i : ℕ) (staged untold : List ℕ) (ring : RingState) → IsSubmitted i staged untold ring rs → IsSubmitted i staged untold ring (changed_at rs q f)
+  submitted_kept workers phases i staged untold ring sub =
+      let own : (k : ℕ) (x : Record) → is_one_of k staged ≡ true → slice_get (changed_at rs q f) k ≡ Some x → x.shown.worker ≡ i = λ k x h there.
+      let old = was_marked k x there in
+      ap (λ y. y.shown.worker) old.2 ∙ mark_kept ℕ (λ y. y.shown.worker) f workers (q == k) old.0 ∙ sub.own k old.0 h old.1 in
+      let all : (k : ℕ) (x : Record) → slice_get (changed_at rs q f) k ≡ Some x → x.shown.worker ≡ i → is_staged x.shown.phase ≡ true → is_one_of k staged ≡ true = λ k x there mine is.
+      let old = was_marked k x there in
+      sub.all k old.0 old.1 (sym (mark_kept ℕ (λ y. y.shown.worker) f workers (q == k) old.0) ∙ sym (ap (λ y. y.shown.worker) old.2) ∙ mine)
+      (sym (ap is_staged (mark_kept RequestPhase (λ y. y.shown.phase) f phases (q == k) old.0)) ∙ sym (ap (λ y. is_staged y.shown.phase) old.2) ∙ is) in
+      assumption (known_then staged sub.known, own, all, sub)
 
   module _ (marks : Marks f) where
     -- what stood there, and how it is marked
@@ -85,15 +82,7 @@ module _ (f : Record → Record) (rs : List Record) (q : ℕ) where
         (old.0, old.1, subst (λ y. y ≡ record old.0 { shown = record old.0.shown { wakes_paid = y.shown.wakes_paid; released = y.shown.released }; sent = y.sent }) (sym old.2) (marks_if f marks (q == k) old.0))
 
     pub submitted_marked : (i : ℕ) (staged untold : List ℕ) (ring : RingState) → IsSubmitted i staged untold ring rs → IsSubmitted i staged untold ring (changed_at rs q f)
-    submitted_marked i staged untold ring sub =
-        let known = known_then staged sub.known in
-        let own : (k : ℕ) (x : Record) → is_one_of k staged ≡ true → slice_get (changed_at rs q f) k ≡ Some x → x.shown.worker ≡ i = λ k x h there.
-        let old = before k x there in
-        ap (λ y. y.shown.worker) old.2 ∙ sub.own k old.0 h old.1 in
-        let all : (k : ℕ) (x : Record) → slice_get (changed_at rs q f) k ≡ Some x → x.shown.worker ≡ i → is_staged x.shown.phase ≡ true → is_one_of k staged ≡ true = λ k x there mine is.
-        let old = before k x there in
-        sub.all k old.0 old.1 (sym (ap (λ y. y.shown.worker) old.2) ∙ mine) (sym (ap (λ y. is_staged y.shown.phase) old.2) ∙ is) in
-        assumption (known, own, all, sub)
+    submitted_marked = submitted_kept (λ r. ap (λ y. y.shown.worker) (marks r)) (λ r. ap (λ y. y.shown.phase) (marks r))
 
     -- all is named as before
     pub named_marked : (i : ℕ) (n : Names) (d : Driving Reply Reply) (zs : Slab (Sleeping Reply)) (sleepers : List SleeperRecord) → IsNamed i n d zs rs sleepers → IsNamed i n d zs (changed_at rs q f) sleepers
@@ -105,14 +94,12 @@ module _ (f : Record → Record) (rs : List Record) (q : ℕ) where
         (mark_if f (q == k) old.0, marked k old.0 old.1, ap (λ y. y.id.0) is ∙ old.2, ap (λ y. y.shown.worker) is ∙ old.3) in
         let alike : (id : Id) (it : Waiter Reply Reply) (r : Record) → waiter_at d.requests id ≡ Some it → slice_get (changed_at rs q f) (number_in n.requests.items id) ≡ Some r → IsAlike d.wheel.start d.wheel.tick it r.shown = λ id it x at_driver there.
         let old = before (number_in n.requests.items id) x there in
-        let a = named.alike id it old.0 at_driver old.1 in
-        subst (λ y. IsAlike d.wheel.start d.wheel.tick it y.shown) (sym old.2) (assumption a) in
+        subst (λ y. IsAlike d.wheel.start d.wheel.tick it y.shown) (sym old.2) (assumption (named.alike id it old.0 at_driver old.1)) in
         let over : (k : ℕ) (r : Record) → slice_get (changed_at rs q f) k ≡ Some r → r.shown.worker ≡ i → waiter_at d.requests r.id.0 ≡ None → is_resolved r.shown.phase ≡ true = λ k x there mine gone.
         let old = before k x there in
         ap (λ y. is_resolved y.shown.phase) old.2
         ∙ named.over k old.0 old.1 (sym (ap (λ y. y.shown.worker) old.2) ∙ mine) (subst (λ y. waiter_at d.requests y.0 ≡ None) (ap (λ y. y.id) old.2) gone) in
-        let submitted = submitted_marked i n.staged.items n.untold.items d.ring named.submitted in
-        assumption (requests, alike, over, submitted, named)
+        assumption (requests, alike, over, submitted_marked i n.staged.items n.untold.items d.ring named.submitted, named)
 
     -- what is due is so still, whatever has ended
     pub due_marked : {closing : Bool} (x : Option InService) (i : ℕ) (m : Moments) (c : Configuration) (n m' : Names) (d : Driving Reply Reply) (zs : Slab (Sleeping Reply)) (sleepers : List SleeperRecord)

@@ -1,16 +1,5 @@
 -- What is due next of a worker is what the machine says: the earliest of its requests' deadlines and of its sleepers.
-use Rattle.std.{proofs.{Common.{◌≡◌, ℕ, ◌+◌, ◌*◌, ◌≤◌, ◌==◌, Bool, true, false, not, List, [], ◌∷◌, map, Option, Some, None, IsSome, refl, sym, ap, subst, ◌∙◌, arith, slice_get, if◌then◌else◌}, lemmas.Bool.{false≢true, eq-eqb, Decides.nat_tests}}, specs.Option.option_map}
-use Rattle.exec_base.specs.{Slab.{Slab, value_at}, declared.slab.Id.Id}
-use Rattle.exec_time.specs.{Wheel.{Wheel, moment_of, next_moment, least_active}, declared.timers.Sleeper.Sleeper as Sleeping}
-use Rattle.exec_waiters.specs.{States.{waiter_at, tick_in, tick_of}, declared.waiter.{Waiter.Waiter}}
-use Rattle.exec_driver.specs.{Driving.Driving, Punctual.IsFirstTick}
-use Rattle.exec_lists.specs.Lists.{has_first}
-use Rattle.exec_task.specs.declared.body.Said.{Said}
-use Rattle.exec_machine.specs.{Deadlines.{first_timer, first_until, next_due}, Progress.Plan, Tests.{is_asleep, is_open, is_resolved}}
-use Rattle.exec_moves.specs.declared.place.Place.{Place}
-use Rattle.exec_parts.specs.{declared.parts.{mail.Reply.Reply, names.Names.Names, record.Record.Record, shared.Shared.Shared, sleeping.SleeperRecord.SleeperRecord, worker.Worker.Worker}, Records.number_in, Spots.Spot, Tests.{HasToldDue, IsFirstSleep, IsNextIn, IsNextMoment}, View.{Views, driver_of, common_of}}
-use Rattle.exec_invariants.{specs.{Due.{AreAsleep, AreTimed, may_be_due}, Names.IsNamed, Sound.{SoundAt, served_in}, Works.Suits}, proofs.{Unclosed.unclosed, Leasts.{HasAt, IsLeast, least_in, least_there, least_once}, Seats.own_seat}}
-use Rattle.exec_invariants.proofs.SparedRecord.{live_of}
+use Rattle.exec_invariants.{specs.{Due.{AreAsleep, AreTimed, may_be_due}, Names.IsNamed, Sound.{SoundAt, served_in}, Works.Suits}, proofs.{Words.{◌≡◌, ℕ, ◌+◌, ◌*◌, ◌≤◌, ◌==◌, Bool, true, false, not, List, [], ◌∷◌, map, Option, Some, None, IsSome, refl, sym, ap, subst, ◌∙◌, arith, slice_get, if◌then◌else◌, false≢true, eq-eqb, nat_tests, option_map, Slab, value_at, Id, Wheel, moment_of, next_moment, least_active, Sleeping, waiter_at, tick_in, tick_of, Waiter, Driving, IsFirstTick, has_first, Said, first_timer, first_until, next_due, Plan, is_asleep, is_open, is_resolved, Place, Reply, Names, Record, Shared, SleeperRecord, Worker, number_in, Spot, HasToldDue, IsFirstSleep, IsNextIn, IsNextMoment, Views, driver_of, common_of}, Unclosed.unclosed, Leasts.{HasAt, IsLeast, least_in, least_there, least_once}, Seats.own_seat, SparedRecord.live_of}}
 
 -- THE MACHINE'S MOMENTS
 
@@ -55,8 +44,7 @@ module _ (i : ℕ) (n : Names) (d : Driving Reply Reply) (zs : Slab (Sleeping Re
 
         known : (number_in n.requests.items r.id.0 ≡ has.k → (it : Waiter Reply Reply) → waiter_at d.requests r.id.0 ≡ Some it → (t : ℕ) × (tick_in it.state ≡ Some t) × (m ≡ moment_of d.wheel t))
         known number it at =
-            let there : slice_get records (number_in n.requests.items r.id.0) ≡ Some r = subst (λ k. slice_get records k ≡ Some r) (sym number) has.there in
-            by (tick_in it.state) refl (named.alike r.id.0 it r at there).timer
+            by (tick_in it.state) refl (named.alike r.id.0 it r at (subst (λ k. slice_get records k ≡ Some r) (sym number) has.there)).timer
           where
             by : (o : Option ℕ) → tick_in it.state ≡ o → r.shown.timer ≡ option_map (λ t. d.wheel.start + t * d.wheel.tick) (tick_in it.state) → (t : ℕ) × (tick_in it.state ≡ Some t) × (m ≡ moment_of d.wheel t)
             by None none is = let no : Some m ≡ None = sym two.1 ∙ is ∙ ap (option_map (λ t. d.wheel.start + t * d.wheel.tick)) none in absurd (cc)
@@ -135,31 +123,29 @@ module _ (i : ℕ) (n : Names) (d : Driving Reply Reply) (zs : Slab (Sleeping Re
                 let same : z.deadline ≡ m = cc in
                 (subst (HasAt (sleeps_until i) sleepers) same (until_found some.0 z is), λ u has. let found = sleeper_found u has in rw found.3 (some.1.least found.0 found.1 found.2))
 
-module _ {B : Type 0} where
-  -- outside the submissions nothing is due that wasn't told
-  pub told_due : (q : Place) (w : Worker) (s : Shared B) → SoundAt q w s → may_be_due (served_in q) ≡ false → HasToldDue w
-  told_due q w s sound none = (sound.due.punctual, ap has_first (sound.due.told none))
+-- outside the submissions nothing is due that wasn't told
+pub told_due : {B : Type 0} (q : Place) (w : Worker) (s : Shared B) → SoundAt q w s → may_be_due (served_in q) ≡ false → HasToldDue w
+told_due q w s sound none = (sound.due.punctual, ap has_first (sound.due.told none))
 
-module _ {B L : Type 0} (left : B → L) (spot : L → Option Said → Spot) where
-  -- What a worker finds next is what the machine has.
-  pub moment_seen : (p : Plan) (vs : Views) (q : Place) (w : Worker) (s : Shared B) (moment : Option ℕ) → Suits p vs w s → SoundAt q w s → IsNextMoment w moment
-      → moment ≡ next_due (common_of left spot p vs s) w.index
-  moment_seen p vs q w s moment suits sound next = by w.home.closing refl next.1
-    where
-      i : ℕ
-      i = w.index
+-- What a worker finds next is what the machine has.
+pub moment_seen : {B L : Type 0} (left : B → L) (spot : L → Option Said → Spot) (p : Plan) (vs : Views) (q : Place) (w : Worker) (s : Shared B) (moment : Option ℕ) → Suits p vs w s → SoundAt q w s → IsNextMoment w moment
+    → moment ≡ next_due (common_of left spot p vs s) w.index
+moment_seen left spot p vs q w s moment suits sound next = by w.home.closing refl next.1
+  where
+    i : ℕ
+    i = w.index
 
-      d : Driving Reply Reply
-      d = driver_of w
+    d : Driving Reply Reply
+    d = driver_of w
 
-      timer : next_moment d.wheel ≡ first_timer i (map (λ r. r.shown) s.requests.items)
-      timer = first_deadline i w.names d w.home.timers s.requests.items s.sleepers.items sound.named sound.due.timed (least_active d.wheel) next.0
+    timer : next_moment d.wheel ≡ first_timer i (map (λ r. r.shown) s.requests.items)
+    timer = first_deadline i w.names d w.home.timers s.requests.items s.sleepers.items sound.named sound.due.timed (least_active d.wheel) next.0
 
-      opened : is_open sound.seated.seat.phase ≡ not w.home.closing
-      opened = let phased = sound.phased sound.seated.seat sound.seated.there in phased.opened ∙ ap not (sym phased.told)
+    opened : is_open sound.seated.seat.phase ≡ not w.home.closing
+    opened = let phased = sound.phased sound.seated.seat sound.seated.there in phased.opened ∙ ap not (sym phased.told)
 
-      by : (closing : Bool) → w.home.closing ≡ closing → IsNextIn closing w moment → moment ≡ next_due (common_of left spot p vs s) i
-      by true closes is = rw (own_seat left spot p vs w s sound.seated.seat suits sound.seated.there, opened, closes) (is ∙ timer)
-      by false opens is =
-          let sleep = first_sleep i w.names d w.home.timers s.requests.items s.sleepers.items sound.named sound.due.asleep opens is.0 is.1 in
-          rw (own_seat left spot p vs w s sound.seated.seat suits sound.seated.there, opened, opens, ← timer, ← sleep) is.2
+    by : (closing : Bool) → w.home.closing ≡ closing → IsNextIn closing w moment → moment ≡ next_due (common_of left spot p vs s) i
+    by true closes is = rw (own_seat left spot p vs w s sound.seated.seat suits sound.seated.there, opened, closes) (is ∙ timer)
+    by false opens is =
+        let sleep = first_sleep i w.names d w.home.timers s.requests.items s.sleepers.items sound.named sound.due.asleep opens is.0 is.1 in
+        rw (own_seat left spot p vs w s sound.seated.seat suits sound.seated.there, opened, opens, ← timer, ← sleep) is.2

@@ -1,7 +1,5 @@
 -- A task has at most one runnable.
-use Rattle.std.proofs.Common.{◌≡◌, ℕ, ◌≤◌, Bool, true, false, arith}
-use Rattle.exec_task.specs.declared.task.Phase.{Phase}
-use Rattle.exec_invariants.specs.Whole.{HasOne, IsLeftOver, IsQueuedOnce}
+use Rattle.exec_invariants.{specs.Whole.{HasOne, IsLeftOver, IsQueuedOnce}, proofs.Words.{◌≡◌, ℕ, ◌≤◌, Bool, true, false, arith, Phase}}
 
 pub once_queued : (gone : Bool) (n : ℕ) → n ≡ 1 → IsQueuedOnce gone n
 once_queued true n one = omega (arith, one)

@@ -1,13 +1,5 @@
 -- What keeps the order of deadlines: that ticks go, that one comes, that a new request waits for one.
-use Rattle.std.{proofs.{Common.{◌≡◌, ◌≢◌, ◌⊎◌, ℕ, ◌+◌, ◌%◌, ◌^◌, ◌<◌, Bool, true, false, List, [], ◌∷◌, ◌++◌, Option, Some, None, IsSome, refl, sym, ap, subst, ◌∙◌, arith, inl, inr}, lemmas.Bool.{false≢true, Decides.eqb_tells}}, specs.List.AllByRecursion}
-use Rattle.exec_base.{specs.{Slab.{Slab, IsPast, freed, next_id, removed, value_at, written}, declared.slab.{Id.Id}}, proofs.Slots.{Changed-set, IsLiveAt-from_value, live_within, past-write, was_live}}
-use Rattle.exec_time.specs.Wheel.{Wheel, fresh, scheduled, removed as unticked}
-use Rattle.exec_waiters.{specs.{Events.with_tick, States.{awaits_tick, takes_tick, tick_in, tick_of, waiter_at}, declared.{waiter.{Entry.{Entry, TheVariants.Pending}, Waiter.Waiter}, waiter_id.WaiterId.WaiterId}}, proofs.Changes.entry_of}
-use Rattle.exec_lists.{specs.Lists.{rest_of, without}, proofs.{Counting.{OneChanged, one_written}, Names.same_tells}}
-use Rattle.exec_driver.specs.Steps.{unscheduled}
-use Rattle.exec_parts.{specs.{declared.parts.mail.Reply.Reply, Records.number_in}, proofs.Facts.by_name}
-use Rattle.exec_invariants.specs.Ordered.{HasCome, IsOlder, IsOrdered, IsToldBefore, Pairwise, StandsBefore, StandsIn, tick_at}
-use Rattle.exec_invariants.proofs.SparedRecord.{live_of}
+use Rattle.exec_invariants.{specs.Ordered.{HasCome, IsOlder, IsOrdered, IsToldBefore, Pairwise, StandsBefore, StandsIn, tick_at}, proofs.{Words.{◌≡◌, ◌≢◌, ◌⊎◌, ℕ, ◌+◌, ◌%◌, ◌^◌, ◌<◌, Bool, true, false, List, [], ◌∷◌, ◌++◌, Option, Some, None, IsSome, refl, sym, ap, subst, ◌∙◌, arith, inl, inr, false≢true, eqb_tells, AllByRecursion, Slab, IsPast, freed, next_id, removed, value_at, written, Id, Changed-set, IsLiveAt-from_value, live_within, past-write, was_live, Wheel, fresh, scheduled, unticked, with_tick, awaits_tick, takes_tick, tick_in, tick_of, waiter_at, Entry, Pending, Waiter, WaiterId, entry_of, rest_of, without, OneChanged, one_written, same_tells, unscheduled, Reply, number_in, by_name}, SparedRecord.live_of}}
 
 -- PARTS OF A LIST
 
@@ -235,11 +227,10 @@ module _ (round : Bool) (numbers numbers' : List ℕ) (s s' : Slab (Entry Reply 
   -- and whose deadline is
   pub joins : IsOrdered round numbers' s' w (es ++ id ∷ []) []
   joins =
-      let it = comes_in in
-      let rise = pairs_append (λ a b. IsOlder numbers' a.0 b.0) es (id ∷ []) it.rise (tt, tt) (all_part (λ e live. (is_older e.0 live, tt)) es es (part_self es) listed) in
+      let rise = pairs_append (λ a b. IsOlder numbers' a.0 b.0) es (id ∷ []) comes_in.rise (tt, tt) (all_part (λ e live. (is_older e.0 live, tt)) es es (part_self es) listed) in
       let newer : (id0 : Id) (t : ℕ) → tick_at s' id0 ≡ Some t → AllByRecursion (λ e. IsOlder numbers' id0 e.0) (es ++ id ∷ []) =
-      λ x t at. all_append (λ e. IsOlder numbers' x e.0) es (id ∷ []) (it.newer x t at) (is_older x (ticked_live s x t (eases.ticks x t at)), tt) in
-      assumption (rise, newer, tt, it)
+      λ x t at. all_append (λ e. IsOlder numbers' x e.0) es (id ∷ []) (comes_in.newer x t at) (is_older x (ticked_live s x t (eases.ticks x t at)), tt) in
+      assumption (rise, newer, tt, comes_in)
 
 -- before the first request
 pub begins_ordered : {round : Bool} {numbers : List ℕ} {s : Slab (Entry Reply Reply)} {w : Wheel} {es ds : List WaiterId} (horizon tick start slots : ℕ) → s.slots ≡ [] → w ≡ fresh horizon tick start slots → es ≡ [] → ds ≡ [] → IsOrdered round numbers s w es ds

@@ -1,17 +1,5 @@
 -- All that holds again once a request is over, which the kernel doesn't have.
-use Rattle.std.{proofs.{Common.{◌≡◌, ◌≢◌, ℕ, inl, IsSome, ◌+◌, ◌≤◌, ◌==◌, Bool, true, false, List, [], ◌∷◌, ◌++◌, Some, None, refl, sym, ap, subst, ◌∙◌, arith, slice_get}, lemmas.Bool.false≢true}, specs.VecDeque.deque_capacity}
-use Rattle.exec_base.specs.{Slab.{Slab, value_at}, declared.slab.Id.Id}
-use Rattle.exec_outcomes.specs.declared.outcome.Outcome.{Outcome}
-use Rattle.exec_time.specs.declared.timers.Sleeper.{Sleeper as Sleeping}
-use Rattle.exec_request.specs.declared.{output.RequestOutput.RequestOutput, request.Request.Request as Asking}
-use Rattle.exec_ring.specs.Rings.{RingState}
-use Rattle.exec_waiters.{specs.{Ids.user_data_of, States.{is_held_by, pending_count, waiter_at, waiter_of}, Told.{Tells, Told}, declared.{deferred.Deferred.Deferred, waiter.Waiter.Waiter}}, proofs.Changes.entry_of}
-use Rattle.exec_driver.specs.{Driving.Driving, Punctual.IsPunctual}
-use Rattle.exec_lists.specs.Lists.{withdrawn}
-use Rattle.exec_machine.specs.{Tests.{is_in_flight, is_staged}, declared.state.RequestPhase.RequestPhase}
-use Rattle.exec_moves.specs.declared.place.Place.{Place}
-use Rattle.exec_parts.{specs.{declared.parts.{mail.Reply.Reply, names.Names.Names, record.Record.Record, shared.Shared.Shared, sleeping.SleeperRecord.SleeperRecord, worker.Worker.Worker}, Records.number_in, Serving.{AreTagged, cancels_in, changed_at, is_one_of}}, proofs.Facts.same_number}
-use Rattle.exec_invariants.{specs.{Carried.{IsCarried, IsUnderWay, those_of}, Due.{IsWheelAt, may_be_due, wheel_moment}, Flown.{IsPolled, AreLanded, IsPlain, operations}, Gates.IsKnown, HoldPlaces.{has_wakes_at, is_bare_at}, Ordered.{IsOrdered, went_round}, Rooted.outcome_told, Names.{IsSubmitted, tellers}, Sound.served_in}, proofs.{Carries.carried_over, Conveying.carried_ring, Known.known_on, Leaving.{flown_over, landed_still}, Mine.live_mine, Marking.{known_then, mark_if, marked_length, was_marked}, Over.{OneEnds, kept_id, kept_worker, other_record, named_ended, over_ended, timed_ended, unresolved_before, apart_number, gone_here}, Orders.{IsPartOf, TurnsAlike, eased, eases_one, part_without}, Resolving.{places_fewer, told_ended, wide_ended}, ServedEnds.{TellsEnd, rooted_ended}, ServingHolds.KeepsWith}}
+use Rattle.exec_invariants.{specs.{Carried.{IsCarried, IsUnderWay, those_of}, Due.{IsWheelAt, may_be_due, wheel_moment}, Flown.{IsPolled, AreLanded, IsPlain, operations}, Gates.IsKnown, HoldPlaces.{has_wakes_at, is_bare_at}, Ordered.{IsOrdered, went_round}, Rooted.outcome_told, Names.{IsSubmitted, tellers}, Sound.served_in}, proofs.{Words.{◌≡◌, ◌≢◌, ℕ, inl, IsSome, ◌+◌, ◌≤◌, ◌==◌, Bool, true, false, List, [], ◌∷◌, ◌++◌, Some, None, refl, sym, ap, subst, ◌∙◌, arith, slice_get, false≢true, deque_capacity, Slab, value_at, Id, Outcome, Sleeping, RequestOutput, Asking, RingState, user_data_of, is_held_by, pending_count, waiter_at, waiter_of, Tells, Told, Deferred, Waiter, entry_of, Driving, IsPunctual, withdrawn, is_in_flight, is_staged, RequestPhase, Place, Reply, Names, Record, Shared, SleeperRecord, Worker, number_in, AreTagged, cancels_in, changed_at, is_one_of, same_number}, Carries.carried_over, Conveying.carried_ring, Known.known_on, Leaving.{flown_over, landed_still}, Mine.live_mine, Marking.{known_then, mark_if, marked_length, was_marked}, Over.{OneEnds, kept_id, kept_worker, other_record, named_ended, over_ended, timed_ended, unresolved_before, apart_number, gone_here}, Orders.{IsPartOf, TurnsAlike, eased, eases_one, part_without}, Resolving.{places_fewer, told_ended, wide_ended}, ServedEnds.{TellsEnd, rooted_ended}, ServingHolds.KeepsWith}}
 
 -- the kernel has nothing of it where it isn't in flight
 nothing_has : (p : RequestPhase) (u : ℕ) (q : Asking) (r : RingState) → is_in_flight p ≡ false → IsUnderWay p u q r → (those_of u r.flying ≡ []) × (those_of u r.staged ≡ [])
@@ -42,9 +30,8 @@ module _ {B : Type 0} (w : Worker) (s : Shared B) (d d' : Driving Reply Reply) (
 
   carried_ended : d'.ring.flying ≡ d.ring.flying → d'.ring.staged ≡ d.ring.staged → (those_of (user_data_of id) d.ring.flying ≡ []) × (those_of (user_data_of id) d.ring.staged ≡ []) → IsCarried w.names.requests.items d'.requests d'.ring rs_ended s.store
   carried_ended flying entries none =
-      let n = w.names.requests.items in
-      carried_ring n d'.requests d.ring rs_ended s.store
-      (carried_over n d.requests d.ring rs s.store keeps.carried d'.requests id it r f outcome one.at one.there none
+      carried_ring w.names.requests.items d'.requests d.ring rs_ended s.store
+      (carried_over w.names.requests.items d.requests d.ring rs s.store keeps.carried d'.requests id it r f outcome one.at one.there none
       (gone_here w.index w.names d d' zs rs ss id it r f outcome told one keeps.named keeps.due.timed) (λ other apart. ap waiter_of (one.slab.others other apart)) (ap (λ y. y.shown.phase) one.ends.same) one.less
       (λ other x at apart. apart_number w.index w.names d d' zs rs ss id it r f outcome told one keeps.named keeps.due.timed other (rw (entry_of (value_at d.requests other) x at) refl) apart))
       d'.ring (λ v small. ap (those_of v) flying) (λ v small. ap (those_of v) entries)
@@ -84,10 +71,7 @@ module _ {B : Type 0} (w : Worker) (s : Shared B) (d d' : Driving Reply Reply) (
   keeps_over tells adds ended capacity plain fits size under entries polled landed lists start tick punctual due wheel turns wakes bare =
       let k = number_in w.names.requests.items id in
       let n' : Names = record w.names { ended = v.ended } in
-      let pending = one.slab.pending in
-      let held = one.slab.held in
-      let fewer : (tellers d'.requests zs + spare) + 1 ≤ tellers d.requests zs + spare = omega (arith, pending, held) in
-      let less : tellers d'.requests zs + 64 ≤ tellers d.requests zs + 64 = omega (arith, fewer) in
+      let fewer : (tellers d'.requests zs + spare) + 1 ≤ tellers d.requests zs + spare = omega (arith, one.slab.pending, one.slab.held) in
       let timed = keeps.due.timed in
       let mine = live_mine w.index w.names d zs rs ss keeps.named id it r one.at one.there in
       let eases = eases_one d.requests d'.requests id (Some it) None one.at (gone_here w.index w.names d d' zs rs ss id it r f outcome told one keeps.named timed) (λ other apart. ap waiter_of (one.slab.others other apart))
@@ -98,10 +82,10 @@ module _ {B : Type 0} (w : Worker) (s : Shared B) (d d' : Driving Reply Reply) (
       let flown = flown_over w.index w.names d d' zs rs ss id it r f outcome told one keeps.named timed (served_in w.place) n' refl refl refl refl capacity size entries polled landed lists plain keeps.flown in
       record {
         told = told_ended w.names.ended.items v.ended.items k (tellers d'.requests zs + spare) w.home.deferred left t adds tells.once ended (places_fewer fewer keeps.told);
-        wide = wide_ended (tellers d.requests zs + 64) (tellers d'.requests zs + 64) w.home.deferred left t less adds keeps.wide;
+        wide = wide_ended (tellers d.requests zs + 64) (tellers d'.requests zs + 64) w.home.deferred left t (omega (arith, fewer)) adds keeps.wide;
         named = named_ended w.index w.names d d' zs rs ss id it r f outcome told one keeps.named timed n' refl refl start tick (submitted_ended entries);
         sized = size ∙ keeps.sized;
-        over = over_ended w.index w.names d d' zs rs ss id it r f outcome told one keeps.named timed w.names.ended.items v.ended.items w.names.unreleased (pending_count d.requests) (pending_count d'.requests) ended pending
+        over = over_ended w.index w.names d d' zs rs ss id it r f outcome told one keeps.named timed w.names.ended.items v.ended.items w.names.unreleased (pending_count d.requests) (pending_count d'.requests) ended one.slab.pending
             mine (keeps.flown.owning k r one.there (unresolved_before w.index w.names d d' zs rs ss id it r f outcome told one keeps.named timed)) keeps.over;
         quiet = λ h. absurd (false≢true (sym h ∙ wakes));
         due = record { punctual = punctual; told = due; wheel = wheel; timed = timed_ended w.index w.names d d' zs rs ss id it r f outcome told one keeps.named timed n' refl; asleep = record { alike = keeps.due.asleep.alike; there = keeps.due.asleep.there; named = keeps.due.asleep.named; lets_go = keeps.due.asleep.lets_go; counted = keeps.due.asleep.counted; names = keeps.due.asleep.names }; order = order };

@@ -1,23 +1,12 @@
 -- What holds again once a request is over, which the kernel doesn't have.
-use Rattle.std.proofs.{Common.{◌≡◌, ◌≢◌, ◌⊎◌, ℕ, zero, suc, ◌+◌, ◌≤◌, ◌==◌, Bool, true, false, List, [], ◌∷◌, ◌++◌, length, Some, None, IsSome, refl, sym, ap, subst, ◌∙◌, arith, inl, inr, slice_get}, lemmas.{Bool.{false≢true, eq-eqb}, List.length-append}}
-use Rattle.std.proofs.lemmas.Bool.{true_from_ne_false}
-use Rattle.exec_base.specs.{Slab.{Slab, value_at}, declared.slab.Id.Id}
-use Rattle.exec_outcomes.specs.declared.outcome.Outcome.{Outcome}
-use Rattle.exec_time.specs.declared.timers.Sleeper.{Sleeper as Sleeping}
-use Rattle.exec_request.specs.declared.output.RequestOutput.{RequestOutput}
-use Rattle.exec_waiters.{specs.{States.{waiter_at, waiter_of}, declared.{waiter.{Entry.{Entry}, Waiter.Waiter}}}, proofs.Changes.entry_of}
-use Rattle.exec_driver.specs.Driving.{Driving}
-use Rattle.exec_machine.specs.{declared.state.RequestPhase.TheVariants.Resolved, Requests.resolved, Tests.{is_landed, is_resolved}}
-use Rattle.exec_parts.{specs.{declared.parts.{mail.Reply.Reply, names.Names.Names, record.Record.Record, sleeping.SleeperRecord.SleeperRecord}, Records.number_in, Serving.changed_at}, proofs.Facts.{by_name, same_number}}
-use Rattle.exec_invariants.{specs.{Carried.may_move, Due.AreTimed, Sound.AreOver, Names.{IsNamed, IsAlike, IsSubmitted}}, proofs.{Marking.{mark_if, marked, was_marked}, Resolving.{SlabAfter}}}
+use Rattle.exec_invariants.{specs.{Carried.may_move, Due.AreTimed, Sound.AreOver, Names.{IsNamed, IsAlike, IsSubmitted}}, proofs.{Words.{◌≡◌, ◌≢◌, ◌⊎◌, ℕ, zero, suc, ◌+◌, ◌≤◌, ◌==◌, Bool, true, false, List, [], ◌∷◌, ◌++◌, length, Some, None, IsSome, refl, sym, ap, subst, ◌∙◌, arith, inl, inr, slice_get, false≢true, eq-eqb, length-append, true_from_ne_false, Slab, value_at, Id, Outcome, Sleeping, RequestOutput, waiter_at, waiter_of, Entry, Waiter, entry_of, Driving, Resolved, resolved, is_landed, is_resolved, Reply, Names, Record, SleeperRecord, number_in, changed_at, by_name, same_number}, Marking.{mark_if, marked, was_marked}, Resolving.SlabAfter}}
 
 -- what stands in a list with one more at its end
-module _ {A : Type 0} where
-  pub in_append : (e : List A) (k : A) (j : ℕ) (m : A) → slice_get (e ++ k ∷ []) j ≡ Some m → (slice_get e j ≡ Some m) ⊎ ((j ≡ length e) × (m ≡ k))
-  in_append [] k zero m h = inr (refl, cc)
-  in_append [] k (suc j) m h = absurd (cc)
-  in_append (x ∷ e) k zero m h = inl h
-  in_append (x ∷ e) k (suc j) m h = grind (arith, in_append e k j m h)
+pub in_append : {A : Type 0} (e : List A) (k : A) (j : ℕ) (m : A) → slice_get (e ++ k ∷ []) j ≡ Some m → (slice_get e j ≡ Some m) ⊎ ((j ≡ length e) × (m ≡ k))
+in_append [] k zero m h = inr (refl, cc)
+in_append [] k (suc j) m h = absurd (cc)
+in_append (x ∷ e) k zero m h = inl h
+in_append (x ∷ e) k (suc j) m h = grind (arith, in_append e k j m h)
 
 -- what a record says of its deadline, once it is another
 pub record TimedBy (n : Names) (j : ℕ) (x x' : Record) : Type 0 where
@@ -115,8 +104,7 @@ module _ (i : ℕ) (n : Names) (d d' : Driving Reply Reply) (zs : Slab (Sleeping
           named.over j x at mine (sym (ap waiter_of (one.slab.others x.id.0 apart)) ∙ gone) in
           let known : x.id.0 ≡ id → is_resolved x.shown.phase ≡ true = λ same.
           true_from_ne_false (is_resolved x.shown.phase) (λ open_still.
-          let number = (timed j x at mine).named open_still in
-          let here : number_in n.requests.items id ≡ j = ap (number_in n.requests.items) (sym same) ∙ number in
+          let here : number_in n.requests.items id ≡ j = ap (number_in n.requests.items) (sym same) ∙ (timed j x at mine).named open_still in
           false≢true (sym is ∙ ap (λ q. number_in n.requests.items id == q) (sym here) ∙ eq-eqb (number_in n.requests.items id) (number_in n.requests.items id) refl)) in
           by_name x.id.0 id differs (λ same. known same)
 
@@ -124,8 +112,7 @@ module _ (i : ℕ) (n : Names) (d d' : Driving Reply Reply) (zs : Slab (Sleeping
   timed_ended n' requests j x found mine =
       let old = was_marked f rs (number_in n.requests.items id) j x found in
       let b = number_in n.requests.items id == j in
-      let of_i : old.0.shown.worker ≡ i = sym (kept_worker j b old.0 refl old.1) ∙ sym (ap (λ y. y.shown.worker) old.2) ∙ mine in
-      let t = timed_by j b old.0 refl old.1 of_i in
+      let t = timed_by j b old.0 refl old.1 (sym (kept_worker j b old.0 refl old.1) ∙ sym (ap (λ y. y.shown.worker) old.2) ∙ mine) in
       grind (arith, kept_id)
     where
       timed_by : (j : ℕ) (b : Bool) (x : Record) → (number_in n.requests.items id == j) ≡ b → slice_get rs j ≡ Some x → x.shown.worker ≡ i → TimedBy n j x (mark_if f b x)

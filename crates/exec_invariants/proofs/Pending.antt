@@ -1,12 +1,5 @@
 -- What the end of a poll is to the machine, where the task waits.
-use Rattle.std.proofs.{Common.{◌≡◌, ◌⊎◌, inl, ℕ, ◌<◌, ◌==◌, ◌&&◌, ◌||◌, not, Bool, true, false, length, Option, Some, None, IsSome, refl, sym, ap, subst, ◌∙◌, slice_get, slice_set, is_some, option_to_list, IsTrue, if◌then◌else◌}, lemmas.{Bool.{false≢true, eq-eqb}, Option.slice_get_within}}
-use Rattle.std.proofs.Common.{arith}
-use Rattle.std.proofs.lemmas.Bool.{or_right}
-use Rattle.exec_task.specs.{Phases.{is_polled, given_back, over, requeue_where, runnable_of, pend_answer}, declared.{body.Said.Said, runnable.{AfterPoll.AfterPoll, Runnable.Runnable}, task.Phase.Phase}}
-use Rattle.exec_machine.specs.{declared.{event.Event.{Event, TheVariants.Pend}, state.{Request.Request, Sleeper.Sleeper, Waiting.Waiting, Next.Next}}, Choice.Choice.Plain, Progress.Plan, Same.is_number, Tasks.{may_stop, pended_phase}, Tests.{is_resolved, is_settled, is_unsent}, World.task_of}
-use Rattle.exec_moves.specs.{declared.{handing.{AfterCallbacks.AfterCallbacks, AfterPush.AfterPush, InPush.InPush}, place.{InPoll.InPoll, Place.Place, InCallbacks.InCallbacks}}, Move.move_at, Poll.{is_noted, pend as pend_moves}, Seen.{polls_at, polls_in, next_in_poll}, State.{Desk, Moved, Things}}
-use Rattle.exec_parts.{specs.{declared.parts.{shared.Shared.Shared, task_slot.TaskSlot.TaskSlot, worker.Worker.Worker}, Phased.is_complete, Polls.{OfSlot, flag_after, pended_with, pended_slot}, Pooled.queued_again, Spots.Spot, Tests.after_poll_of, View.{Views, own_of, desk_of, common_of, phase_seen, task_seen, body_in, things_with}, Things.TurnsSlot}, proofs.Facts.same_Some}
-use Rattle.exec_invariants.{specs.{Places.{begins_at, hands_on_at, removes_at}, Holding.holder_of, Sound.{IsInHand, MayStop, SoundAt, may_end}, Whole.{HasOne, is_number as is_counted, runnables_in}, Works.{Suits, Steps}}, proofs.{Here.{IsHere, polled_here}, Polling.{IsOutside, home_mine, number_apart}, PoolKept.unremoved, Slots.{Balances, IsEvent, slotted, task_there}, SlotTasks.{IsAfter, Sits, root_tasked}, Seen.{request_at, sleeper_at}}}
+use Rattle.exec_invariants.{specs.{Places.{begins_at, hands_on_at, removes_at}, Holding.holder_of, Sound.{IsInHand, MayStop, SoundAt, may_end}, Whole.{HasOne, is_number as is_counted, runnables_in}, Works.{Suits, Steps}}, proofs.{Words.{◌≡◌, ◌⊎◌, inl, ℕ, ◌<◌, ◌==◌, ◌&&◌, ◌||◌, not, Bool, true, false, length, Option, Some, None, IsSome, refl, sym, ap, subst, ◌∙◌, slice_get, slice_set, is_some, option_to_list, IsTrue, if◌then◌else◌, false≢true, eq-eqb, slice_get_within, arith, or_right, is_polled, given_back, over, requeue_where, runnable_of, pend_answer, Said, AfterPoll, Runnable, Phase, Event, Pend, Request, Sleeper, Waiting, Next, Plain, Plan, is_number, may_stop, pended_phase, is_resolved, is_settled, is_unsent, task_of, AfterCallbacks, AfterPush, InPush, InPoll, Place, InCallbacks, move_at, is_noted, pend_moves, polls_at, polls_in, next_in_poll, Desk, Moved, Things, Shared, TaskSlot, Worker, is_complete, OfSlot, flag_after, pended_with, pended_slot, queued_again, Spot, after_poll_of, Views, own_of, desk_of, common_of, phase_seen, task_seen, body_in, things_with, TurnsSlot, same_Some}, Here.{IsHere, polled_here}, Polling.{IsOutside, home_mine, number_apart}, PoolKept.unremoved, Slots.{Balances, IsEvent, slotted, task_there}, SlotTasks.{IsAfter, root_tasked}, Seen.{request_at, sleeper_at}}}
 
 -- WHAT IT WAITS FOR ISN'T OVER
 
@@ -16,16 +9,28 @@ requested = grind (arith, or_right, eq-eqb)
 slept : (it : Sleeper) (i : ℕ) → (is_unsent it.forwarding ≡ false) ⊎ ((it.worker ≡ i) × (it.fired ≡ false) × (it.removed ≡ false)) → (not (is_unsent it.forwarding) || ((it.worker == i) && not it.fired && not it.removed)) ≡ true
 slept = grind (arith, or_right, eq-eqb)
 
-module _ {B L : Type 0} (left : B → L) (spot : L → Option Said → Spot) where
-  pub stops : (p : Plan) (vs : Views) (w : Worker) (s : Shared B) (u : Waiting) → may_end u ≡ true → MayStop w.index u s.requests.items s.sleepers.items → may_stop (common_of left spot p vs s) w.index u ≡ true
-  stops p vs w s Waiting.Nothing ends so = absurd (false≢true ends)
-  stops p vs w s (Waiting.Request k) ends so =
-      subst (λ (it : Request). (not (is_unsent it.forwarding) || ((it.worker == w.index) && not (is_resolved it.phase))) ≡ true) (sym (request_at s.requests.items k so.0 so.1)) (requested so.0.shown w.index so.2)
-  stops p vs w s (Waiting.Timer n) ends so =
-      subst (λ (it : Sleeper). (not (is_unsent it.forwarding) || ((it.worker == w.index) && not it.fired && not it.removed)) ≡ true) (sym (sleeper_at s.sleepers.items n so.0 so.1)) (slept so.0.shown w.index so.2)
-  stops p vs w s Waiting.Wake ends so = refl
-  stops p vs w s Waiting.Woken ends so = absurd (false≢true ends)
-  stops p vs w s Waiting.Yielded ends so = refl
+pub stops : {B L : Type 0} (left : B → L) (spot : L → Option Said → Spot) (p : Plan) (vs : Views) (w : Worker) (s : Shared B) (u : Waiting) → may_end u ≡ true → MayStop w.index u s.requests.items s.sleepers.items → may_stop (common_of left spot p vs s) w.index u ≡ true
+stops left spot p vs w s Waiting.Nothing ends so = absurd (false≢true ends)
+stops left spot p vs w s (Waiting.Request k) ends so =
+    subst (λ (it : Request). (not (is_unsent it.forwarding) || ((it.worker == w.index) && not (is_resolved it.phase))) ≡ true) (sym (request_at s.requests.items k so.0 so.1)) (requested so.0.shown w.index so.2)
+stops left spot p vs w s (Waiting.Timer n) ends so =
+    subst (λ (it : Sleeper). (not (is_unsent it.forwarding) || ((it.worker == w.index) && not it.fired && not it.removed)) ≡ true) (sym (sleeper_at s.sleepers.items n so.0 so.1)) (slept so.0.shown w.index so.2)
+stops left spot p vs w s Waiting.Wake ends so = refl
+stops left spot p vs w s Waiting.Woken ends so = absurd (false≢true ends)
+stops left spot p vs w s Waiting.Yielded ends so = refl
+
+-- a place of a poll that has begun, at which it may end
+pub record MayEnd (x : InPoll) (t : ℕ) : Type 0 where
+  pub polls : polls_in t x ≡ Some t
+  pub free : next_in_poll x ≡ Next.Free
+  pub begins : begins_at (Place.Poll t x) ≡ None
+  pub hands : hands_on_at (Place.Poll t x) ≡ false
+
+pub at_pend : (t : ℕ) → MayEnd InPoll.Pend t
+at_pend t = record { polls = refl; free = refl; begins = refl; hands = refl }
+
+pub at_resume : (t : ℕ) → MayEnd InPoll.Resume t
+at_resume t = record { polls = refl; free = refl; begins = refl; hands = refl }
 
 -- THE CELL
 
@@ -54,20 +59,6 @@ module _ {B : Type 0} where
   has_body None some = absurd (false≢true some)
   has_body (Some b) some = (b, refl)
 
--- a place of a poll that has begun, at which it may end
-pub record MayEnd (x : InPoll) (t : ℕ) : Type 0 where
-  pub polls : polls_in t x ≡ Some t
-  pub free : next_in_poll x ≡ Next.Free
-  pub begins : begins_at (Place.Poll t x) ≡ None
-  pub hands : hands_on_at (Place.Poll t x) ≡ false
-
-pub at_pend : (t : ℕ) → MayEnd InPoll.Pend t
-at_pend t = record { polls = refl; free = refl; begins = refl; hands = refl }
-
-pub at_resume : (t : ℕ) → MayEnd InPoll.Resume t
-at_resume t = record { polls = refl; free = refl; begins = refl; hands = refl }
-
-module _ {B : Type 0} where
   -- what a poll needs that ends here
   pub record IsAtEnd (t : ℕ) (s : Shared B) : Type 0 where
     pub there : t < length s.tasks.items
@@ -123,10 +114,9 @@ module _ {B L : Type 0} (left : B → L) (spot : L → Option Said → Spot) whe
   ended_event x w f h s slot b may there home empty how cleared flag ends p vs suits stop =
       let all = common_of left spot p vs s in
       let d = desk_of w in
-      let things = things_with vs s in
       let it : task_of all w.root ≡ task_seen left spot slot = task_there left spot s.tasks.items w.root slot there in
       let kept : (task_of all w.root).cleared ≡ false = ap (λ y. y.cleared) it ∙ cleared in
-      let by : Desk → Moved Things = λ k. record { event = Pend w.root; choice = Plain; desk = k; thing = things } in
+      let by : Desk → Moved Things = λ k. record { event = Pend w.root; choice = Plain; desk = k; thing = (things_with vs s) } in
       record {
         moves = grind (arith, ends p vs suits, it, home, how.flag, flag, empty);
         may = (ap (is_number w.root) may.polls ∙ eq-eqb w.root w.root refl, (ap is_settled may.free, (ap (λ y. may_stop all w.index y.waiting) it ∙ stop, tt)));
@@ -147,14 +137,12 @@ module _ {B L : Type 0} (left : B → L) (spot : L → Option Said → Spot) whe
       let there = it.there in
       let old = (it.root refl).0 in
       let home = (it.root refl).1 in
-      let is_on = it.polled in
       let body = has_body slot.body it.body in
       let empty : w.hand ≡ None = hand_empty x w.root w s sound may in
-      let how = ends_as slot.cell.phase body.0 slot.body slot.poller (runnable_of slot.cell) w.root_ready is_on body.1 in
+      let how = ends_as slot.cell.phase body.0 slot.body slot.poller (runnable_of slot.cell) w.root_ready it.polled body.1 in
       let slot' = given_slot body.0 slot in
       let a : AfterPoll = requeue_where (runnable_of slot.cell) slot.cell.phase in
       let f : Option Runnable = flag_after a w.root_ready in
-      let sits : Sits to w f s slot slot' = grind arith in
       let bal : Balances w.root to w None slot slot' = record {
         keeps = record { home = refl; number = refl; owner = refl };
         holder = ap (λ o. record (holder_of slot) { over = o }) how.complete;
@@ -167,13 +155,12 @@ module _ {B L : Type 0} (left : B → L) (spot : L → Option Said → Spot) whe
       } in
       let items = turns.tasks slot there ∙ ap (λ o. slice_set s.tasks.items w.root o) (slot_given slot body.0 body.1 old.kept) in
       let done : Steps left spot w s (Pend w.root) (record w { place = to; root_ready = f; hand = None }) (record s { tasks = s'.tasks }) =
-      slotted left spot w.root x to w f None s s' slot slot' (Pend w.root) Plain sound to_callbacks (root_tasked w.root x to w f s slot slot' sound sits) there items bal
+      slotted left spot w.root x to w f None s s' slot slot' (Pend w.root) Plain sound to_callbacks (root_tasked w.root x to w f s slot slot' sound (grind arith)) there items bal
       (home_mine w.index slot.home (inl home)) (λ polled. inl it.poller) (record { home = refl; body = how.same_body; going = λ h. sym how.complete ∙ h; told = λ answer hears. (hears, refl) })
       (λ p vs suits. ended_event x w f None s slot body.0 may there home empty how old.uncleared refl ends p vs suits (stop slot p vs there suits)) in
       let is : w' ≡ record w { place = to; root_ready = f; hand = None } =
       goes slot there ∙ ap (λ y. queued_again w.root y (record w { place = after_poll_of w.root w })) (answer_given slot old.kept) ∙ requeued_root w a ∙ ap (λ o. record w { place = to; root_ready = f; hand = o }) empty in
       subst (λ y. Steps left spot w s e w' y) (sym turns.kept) (subst (λ y. Steps left spot w s e y (record s { tasks = s'.tasks })) (sym is) (subst (λ y. Steps left spot w s y (record w { place = to; root_ready = f; hand = None }) (record s { tasks = s'.tasks })) (sym event) done))
 
-module _ {B : Type 0} where
-  pub in_poll : (p : Phase B) (o : Option B) → is_polled p ≡ true → body_in p o ≡ o
-  in_poll = grind arith
+pub in_poll : {B : Type 0} (p : Phase B) (o : Option B) → is_polled p ≡ true → body_in p o ≡ o
+in_poll = grind arith

@@ -1,11 +1,5 @@
 -- A cell in its poll; what a body runs and holds after its act; and what is seen of an act that got no memory.
-use Rattle.std.proofs.{Common.{◌≡◌, ℕ, true, List, map, Option, Some, None, refl, sym, ap, subst, ◌∙◌, slice_get, slice_set}, lemmas.{List.{map-set, set-get_or}, Option.get_or_from_slice_get}}
-use Rattle.std.proofs.Common.{arith}
-use Rattle.exec_base.specs.declared.error.Error.TheVariants.{NoMemory}
-use Rattle.exec_task.specs.{Phases.{is_polled, woken as cell_woken}, Sight.Sight, declared.{body.{Act.Act, Said.Said}, task.Phase.Phase}}
-use Rattle.exec_machine.specs.{declared.state.Waiting.Waiting, Progress.Plan, Tasks.woken_phase, World.Task}
-use Rattle.exec_parts.{specs.{Records.numbers_held, declared.parts.{shared.Shared.Shared, task_slot.TaskSlot.TaskSlot, worker.Worker.Worker}, Phased.is_complete, Polls.yielded_slot, Scripts.{GoesOn, IsAnswer, held_after}, Spots.{Spot, spot_of}, View.{phase_seen, task_seen, body_in}, Things.TurnsSlot}, proofs.Facts.{by_number, same_Some, set_elsewhere, set_there}}
-use Rattle.exec_invariants.specs.{Acting.{Performs, StillPerforms}, Hearing.{CanHear, held_once_come}, Works.Same}
+use Rattle.exec_invariants.{specs.{Acting.{Performs, StillPerforms}, Hearing.{CanHear, held_once_come}, Works.Same}, proofs.Words.{◌≡◌, ℕ, true, List, map, Option, Some, None, refl, sym, ap, subst, ◌∙◌, slice_get, slice_set, map-set, set-get_or, get_or_from_slice_get, arith, NoMemory, is_polled, cell_woken, Sight, Act, Said, Phase, Waiting, Plan, woken_phase, Task, numbers_held, Shared, TaskSlot, Worker, is_complete, yielded_slot, GoesOn, IsAnswer, held_after, Spot, spot_of, phase_seen, task_seen, body_in, TurnsSlot, by_number, same_Some, set_elsewhere, set_there}}
 
 -- A CELL IN ITS POLL
 
@@ -22,21 +16,20 @@ module _ {B : Type 0} where
 
 -- WHAT IT RUNS AND HOLDS THEN
 
-module _ {B L : Type 0} (left : B → L) (runs : L → Plan → Option ℕ → Type 0) (holds : L → Option Said → List ℕ) where
-  -- where the slot became this
-  pub still_performs : (t : ℕ) (w w' : Worker) (s s' : Shared B) (slot slot' : TaskSlot B) → slice_get s.tasks.items t ≡ Some slot → s'.tasks.items ≡ slice_set s.tasks.items t slot' → w'.root ≡ w.root → s'.config ≡ s.config
-      → ((p : Plan) → Performs left runs holds p slot → Performs left runs holds p slot') → StillPerforms left runs holds w s w' s'
-  still_performs t w w' s s' slot slot' there items root config performs =
-      record {
-        root = root;
-        config = config;
-        performs = λ p is fits k o found.
-            by_number k t
-            (λ apart. fits k o (sym (set_elsewhere s.tasks.items t k slot' apart) ∙ ap (λ ts. slice_get ts k) (sym items) ∙ found))
-            (λ same.
-            let is : slot' ≡ o = same_Some slot' o (sym (set_there s.tasks.items t slot' slot there) ∙ ap (λ ts. slice_get ts t) (sym items) ∙ subst (λ n. slice_get s'.tasks.items n ≡ Some o) same found) in
-            subst (Performs left runs holds p) is (performs p (fits t slot there)));
-      }
+-- where the slot became this
+pub still_performs : {B L : Type 0} (left : B → L) (runs : L → Plan → Option ℕ → Type 0) (holds : L → Option Said → List ℕ) (t : ℕ) (w w' : Worker) (s s' : Shared B) (slot slot' : TaskSlot B) → slice_get s.tasks.items t ≡ Some slot → s'.tasks.items ≡ slice_set s.tasks.items t slot' → w'.root ≡ w.root → s'.config ≡ s.config
+    → ((p : Plan) → Performs left runs holds p slot → Performs left runs holds p slot') → StillPerforms left runs holds w s w' s'
+still_performs left runs holds t w w' s s' slot slot' there items root config performs =
+    record {
+      root = root;
+      config = config;
+      performs = λ p is fits k o found.
+          by_number k t
+          (λ apart. fits k o (sym (set_elsewhere s.tasks.items t k slot' apart) ∙ ap (λ ts. slice_get ts k) (sym items) ∙ found))
+          (λ same.
+          let is : slot' ≡ o = same_Some slot' o (sym (set_there s.tasks.items t slot' slot there) ∙ ap (λ ts. slice_get ts t) (sym items) ∙ subst (λ n. slice_get s'.tasks.items n ≡ Some o) same found) in
+          subst (Performs left runs holds p) is (performs p (fits t slot there)));
+    }
 
 module _ {B L : Type 0} (left : B → L) (runs : L → Plan → Option ℕ → Type 0) (holds : L → Option Said → List ℕ) (spot : L → Option Said → Spot) (gives : L → Option Sight → Said → Act B → L → Option Sight → Type 0) where
   -- A body that goes on performs the plan, where each thing that it can be told answers its act.

@@ -1,9 +1,5 @@
 -- How far a worker has come, where something of what that speaks of changes.
-use Rattle.std.proofs.{Common.{◌≡◌, ℕ, ◌<◌, Bool, true, false, List, Some, None, slice_get, slice_set}, lemmas.Bool.false≢true}
-use Rattle.std.proofs.Common.{arith}
-use Rattle.exec_machine.specs.{declared.state.WorkerPhase.WorkerPhase, Tests.{is_open, has_ended}}
-use Rattle.exec_moves.specs.declared.place.InClosing.{InClosing}
-use Rattle.exec_parts.{specs.{declared.parts.task_slot.TaskSlot.TaskSlot, Phased.{IsPhased, Stage, is_complete}}, proofs.Facts.{set_there, same_Some}}
+use Rattle.exec_invariants.proofs.Words.{◌≡◌, ℕ, ◌<◌, Bool, true, false, List, Some, None, slice_get, slice_set, false≢true, arith, WorkerPhase, is_open, has_ended, InClosing, TaskSlot, IsPhased, Stage, is_complete, set_there, same_Some}
 
 not_ended : (p : WorkerPhase) → is_open p ≡ true → has_ended p ≡ false
 not_ended = grind arith

@@ -1,10 +1,5 @@
 -- A poll begins: what the worker has in its hand then, and what the step is to the machine.
-use Rattle.std.proofs.{Common.{◌≡◌, ◌≢◌, ◌⊎◌, inl, inr, ⊎_elim, ℕ, ◌+◌, ◌==◌, Bool, true, false, Contains, [], Option, Some, None, IsSome, refl, sym, ap, subst, ◌∙◌, arith, lit<, slice_get, slice_set, is_some, option_to_list, if◌then◌else◌}, lemmas.{Bool.{false≢true, eq-eqb}, Option.slice_get-map}}
-use Rattle.exec_task.specs.{Phases.{is_polled, queued_body, begun as cell_begun, runnable_of}, declared.{body.Said.Said, runnable.Runnable.Runnable, task.Phase.Phase}}
-use Rattle.exec_machine.specs.{declared.{event.Event.{Event, TheVariants.{Begin, Turn}}, state.{TaskPhase.TaskPhase, Waiting.Waiting, Next.Next}}, Choice.Choice.Plain, Progress.Plan, Tasks.{begun, begun_waiting, is_polled_here}, Tests.{is_ready}, World.{Seat, Task, task_of}}
-use Rattle.exec_moves.specs.{declared.place.{InPick.InPick, InPoll.InPoll, Place.Place}, Parts.after_poll, Poll.{after_begin, begin_poll, let_go}, Seen.{next_at, polls_at, polls_in, serves_at}, State.{Moved, Things, does, goes, turns}}
-use Rattle.exec_parts.{specs.{declared.parts.{shared.Shared.Shared, task_slot.TaskSlot.TaskSlot, worker.Worker.Worker}, Phased.is_complete, Polls.{begun_slot, begun_slot_if}, Records.numbers_held, Spots.Spot, Tests.next_pick_of, View.{Views, own_of, owed_at, desk_of, common_of, phase_seen, task_seen, body_in, things_with}, Things.TurnsSlot}, proofs.Facts.{by_number, not_same, same_Some, set_there}}
-use Rattle.exec_invariants.{specs.{Holding.holder_of, Places.{begins_at, hands_on_at, in_poll_of, joins_at, one_if, removes_at}, Sound.{HasGuest, IsGuest, IsInHand, IsRunnable, SoundAt, Stops, WaitsAt, is_told, one_of, root_in_hand, acts_next, IsResting}, Whole.{HasOne, IsGenuine, is_number, runnables_in}, Works.{Steps, Suits}}, proofs.{Begins.{awaits_before, begins_waiting, begins_with, begun_place, stops_later, told_before, waits_before}, Dedicated.chair_of_pool, Hearing.hears_begun, PoolKept.unremoved, Seats.own_seat, Slots.{Balances, IsEvent, Remains, slotted, task_there}, SlotTasks.{IsAfter, Keeps, Sits, Tasked, Visits, guest_tasked, none_in, root_tasked}, Turning.set_found}}
+use Rattle.exec_invariants.{specs.{Holding.holder_of, Places.{begins_at, hands_on_at, in_poll_of, joins_at, one_if, removes_at}, Sound.{HasGuest, IsGuest, IsInHand, IsRunnable, SoundAt, Stops, is_told, one_of, root_in_hand, acts_next, IsResting}, Whole.{HasOne, IsGenuine, is_number, runnables_in}, Works.{Steps, Suits}}, proofs.{Words.{◌≡◌, ◌≢◌, ◌⊎◌, inl, inr, ⊎_elim, ℕ, ◌+◌, ◌==◌, Bool, true, false, Contains, [], Option, Some, None, IsSome, refl, sym, ap, subst, ◌∙◌, arith, lit<, slice_get, slice_set, is_some, option_to_list, if◌then◌else◌, false≢true, eq-eqb, slice_get-map, is_polled, queued_body, cell_begun, runnable_of, Said, Runnable, Phase, Event, Begin, Turn, TaskPhase, Waiting, Next, Plain, Plan, begun, begun_waiting, is_polled_here, is_ready, Seat, Task, task_of, InPick, InPoll, Place, after_poll, after_begin, begin_poll, let_go, next_at, polls_at, polls_in, serves_at, Moved, Things, does, goes, turns, Shared, TaskSlot, Worker, is_complete, begun_slot, begun_slot_if, numbers_held, Spot, next_pick_of, Views, own_of, owed_at, desk_of, common_of, phase_seen, task_seen, body_in, things_with, TurnsSlot, by_number, not_same, same_Some, set_there}, Begins.{awaits_before, begins_waiting, begins_with, begun_place, stops_later, told_before, waits_before}, Dedicated.chair_of_pool, Hearing.hears_begun, PoolKept.unremoved, Seats.own_seat, Slots.{Balances, IsEvent, Remains, slotted, task_there}, SlotTasks.{IsAfter, Keeps, Sits, Tasked, Visits, guest_tasked, none_in, root_tasked}, Turning.set_found}}
 
 -- WHERE IT LEADS
 
@@ -98,8 +93,7 @@ module _ {B : Type 0} where
       root : t ≡ w.root → IsAtStart t w s
       root same =
           let run = sound.runnable in
-          let in_hand : root_in_hand (Some t) w.root w.hand ≡ w.hand = ap (λ b. if b then w.hand else None) (eq-eqb t w.root same) in
-          let empty = unflagged w.root_ready (root_in_hand (Some t) w.root w.hand) r (in_hand ∙ sound.hand.1) run.one in
+          let empty = unflagged w.root_ready (root_in_hand (Some t) w.root w.hand) r ((ap (λ b. if b then w.hand else None) (eq-eqb t w.root same)) ∙ sound.hand.1) run.one in
           let held : IsRunnable (Some r) run.root = subst (λ o. IsRunnable o run.root) empty.1 run.once in
           record {
             slot = run.root;
@@ -163,9 +157,8 @@ module _ {B L : Type 0} (left : B → L) (spot : L → Option Said → Spot) whe
       → (p : Plan) (vs : Views) → Suits p vs w s
       → IsEvent left spot (Place.Poll t InPoll.BeginPoll) (Place.Poll t (after_begin (begun_waiting slot.waiting))) t w w.root_ready None s (begun_slot w.index slot) (Begin t) Plain p vs
   begun_event t w s slot sound there how home p vs suits =
-      let all = common_of left spot p vs s in
       let d = desk_of (record w { place = Place.Poll t InPoll.BeginPoll }) in
-      let it : task_of all t ≡ task_seen left spot slot = task_there left spot s.tasks.items t slot there in
+      let it : task_of (common_of left spot p vs s) t ≡ task_seen left spot slot = task_there left spot s.tasks.items t slot there in
       let chair = sound.seated.seat in
       let seat = own_seat left spot p vs w s chair suits sound.seated.there in
       let begins = begins_with t (begun_waiting slot.waiting) in
@@ -179,12 +172,10 @@ module _ {B L : Type 0} (left : B → L) (spot : L → Option Said → Spot) whe
       let u : Waiting = begun_waiting it.slot.waiting in
       let q : Place = Place.Poll t (after_begin u) in
       let slot' : TaskSlot B = begun_slot w.index it.slot in
-      let waits : WaitsAt (Some (after_begin u)) u = begins_waiting it.slot.waiting in
       let polls : polls_in t (after_begin u) ≡ Some t = (begins_with t u).0 in
       let told : (over : Bool) → is_complete slot'.cell.phase ≡ over → is_complete it.slot.cell.phase ≡ over = λ over is. sym how.complete ∙ is in
       let root : t ≡ w.root → Tasked q w w.root_ready None s (slice_set s.tasks.items t slot') = λ same.
-      let there : slice_get s.tasks.items w.root ≡ Some it.slot = subst (λ n. slice_get s.tasks.items n ≡ Some it.slot) same it.there in
-      let old = sound.tied.stands it.slot there in
+      let old = sound.tied.stands it.slot (subst (λ n. slice_get s.tasks.items n ≡ Some it.slot) same it.there) in
       let sits : Sits q w w.root_ready s it.slot slot' = grind arith in
       subst (λ n. Tasked q w w.root_ready None s (slice_set s.tasks.items n slot')) (sym same) (root_tasked t InPoll.BeginPoll q w w.root_ready s it.slot slot' sound sits) in
       let other : t ≢ w.root → Tasked q w w.root_ready None s (slice_set s.tasks.items t slot') = λ apart.
@@ -192,7 +183,7 @@ module _ {B L : Type 0} (left : B → L) (spot : L → Option Said → Spot) whe
       let cancelled : slot'.cell.cancelled ≡ slot'.cleared = (old.uncleared how.going).0 ∙ sym (old.uncleared how.going).1 in
       let told : is_told slot'.waiting false ≡ true → IsSome slot'.told = λ h. old.told (ap (is_told it.slot.waiting) how.going ∙ told_before it.slot.waiting false h) in
       let untold : acts_next slot'.waiting ≡ false → slot'.told ≡ None = λ h. old.untold (waits_before it.slot.waiting h) in
-      let guest : IsGuest (after_begin u) w.index slot' = assumption (it.ordinary apart, cancelled, told, untold, waits, how) in
+      let guest : IsGuest (after_begin u) w.index slot' = assumption (it.ordinary apart, cancelled, told, untold, begins_waiting it.slot.waiting, how) in
       let keeps : Keeps it.slot slot' = record { home = refl; number = refl; owner = refl } in
       let hand = subst (λ b. IsInHand None b None) (sym (begun_place t u).1) refl in
       let genuine : (r : Runnable) → Contains (option_to_list None) r → IsGenuine (slice_set s.tasks.items t slot') r = λ r has. absurd (none_in r has) in
@@ -200,8 +191,7 @@ module _ {B L : Type 0} (left : B → L) (spot : L → Option Said → Spot) whe
       let guest_so = subst (λ o. HasGuest o (after_begin u) w.index w.root (slice_set s.tasks.items t slot')) (sym polls) (λ no. (slot', set_there s.tasks.items t slot' it.slot it.there, guest)) in
       let stops = subst (λ o. Stops o (after_begin u) w.index (slice_set s.tasks.items t slot') s.requests.items s.sleepers.items) (sym polls) (λ o found. stops_later u o.waiting w.index s.requests.items s.sleepers.items) in
       let rests : is_polled slot'.cell.phase ≡ false → IsResting slot' = λ unpolled. absurd (false≢true (sym unpolled ∙ how.polled)) in
-      let visits : Visits q t w None s it.slot slot' = assumption (apart, keeps, hand, genuine, polls_so, guest_so, stops, rests, it) in
-      guest_tasked t InPoll.BeginPoll q w None s it.slot slot' sound visits in
+      guest_tasked t InPoll.BeginPoll q w None s it.slot slot' sound (assumption (apart, keeps, hand, genuine, polls_so, guest_so, stops, rests, it)) in
       by_number t w.root other root
 
   holder_begun : (i : ℕ) (slot : TaskSlot B) → BeginsAs slot.cell.phase slot.body i → holder_of (begun_slot i slot) ≡ holder_of slot
@@ -233,9 +223,8 @@ module _ {B L : Type 0} (left : B → L) (spot : L → Option Said → Spot) whe
   stale_event : (t : ℕ) (w : Worker) (s : Shared B) (slot : TaskSlot B) → slice_get s.tasks.items t ≡ Some slot → IsStale slot.cell.phase → slot.home ≡ None → (p : Plan) (vs : Views)
       → IsEvent left spot (Place.Poll t InPoll.BeginPoll) (next_pick_of w) t w w.root_ready None s slot Turn Plain p vs
   stale_event t w s slot there stale ordinary p vs =
-      let all = common_of left spot p vs s in
       let d = desk_of (record w { place = Place.Poll t InPoll.BeginPoll }) in
-      let it : task_of all t ≡ task_seen left spot slot = task_there left spot s.tasks.items t slot there in
+      let it : task_of (common_of left spot p vs s) t ≡ task_seen left spot slot = task_there left spot s.tasks.items t slot there in
       let made : Task → Moved Things = λ y. let m = begin_poll t d y in record { event = m.event; choice = m.choice; desk = m.desk; thing = things_with vs s } in
       let made_if : Bool → Option ℕ → Moved Things = λ b h. let m = (if b then does (Begin t) (goes (Place.Poll t (after_begin (begun_waiting slot.waiting))) (let_go d)) (task_seen left spot slot) else turns (after_poll h d) (let_go d) (task_seen left spot slot)) in record { event = m.event; choice = m.choice; desk = m.desk; thing = things_with vs s } in
       grind (arith, own_outside, next_outside, set_found, slice_get-map)
@@ -245,8 +234,7 @@ module _ {B L : Type 0} (left : B → L) (spot : L → Option Said → Spot) whe
   stale_steps t w s s' sound it stale items =
       let q : Place = next_pick_of w in
       let out : IsOutside q = next_outside (w.picks == 0) in
-      let apart : t ≢ w.root = λ same. let queued = (it.root same).1 in let never : Some queued.0 ≡ None = sym (ap queued_body queued.1) ∙ stale.none in absurd (cc) in
-      let ordinary = it.ordinary apart in
+      let ordinary = it.ordinary (λ same. let queued = (it.root same).1 in let never : Some queued.0 ≡ None = sym (ap queued_body queued.1) ∙ stale.none in absurd (cc)) in
       let keeps : Keeps it.slot it.slot = record { home = refl; number = refl; owner = refl } in
       let visits : Visits q t w None s it.slot it.slot = grind arith in
       let bal : Balances t q w None it.slot it.slot = start_balances t q w it.slot it.slot sound.here it.hand it.number keeps refl stale.one (λ k other. ap (λ o. is_number o k) out.polls) (λ n h. ap (λ o. n + one_if (is_number o t)) out.polls ∙ h)

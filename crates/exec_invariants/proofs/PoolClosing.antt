@@ -1,9 +1,6 @@
 -- What holds of the task set and of the mailboxes of all stays, where a closing drains the set, passes the barrier and closes
 -- its mailbox.
-use Rattle.std.proofs.{Common.{◌≡◌, ◌≢◌, ◌⊎◌, ⊎_elim, inl, inr, ℕ, ◌+◌, ◌<◌, ◌≤◌, true, List, Option, Some, None, refl, sym, ap, subst, ◌∙◌, arith, slice_get, slice_set}, lemmas.Bool.false≢true}
-use Rattle.exec_task.specs.{Phases.is_polled, TaskSet.{AreAtHome, Set}}
-use Rattle.exec_parts.{specs.{declared.parts.{seat.Seat.Seat as Chair, task_slot.TaskSlot.TaskSlot}, MailPosts.IsMailbox, Phased.is_complete}, proofs.Facts.{by_number, same_Some, set_elsewhere, set_there}}
-use Rattle.exec_invariants.{specs.Drained.{Duties, HaveLeft, IsBefore, IsHeldOnce, IsOver, IsPool, has_gone, in_set}, proofs.PoolShards.in_shards}
+use Rattle.exec_invariants.{specs.Drained.{Duties, HaveLeft, IsBefore, IsHeldOnce, IsOver, IsPool, has_gone, in_set}, proofs.{Words.{◌≡◌, ◌≢◌, ◌⊎◌, ⊎_elim, inl, inr, ℕ, ◌+◌, ◌<◌, ◌≤◌, true, List, Option, Some, None, refl, sym, ap, subst, ◌∙◌, arith, slice_get, slice_set, false≢true, is_polled, AreAtHome, Set, Chair, TaskSlot, IsMailbox, is_complete, by_number, same_Some, set_elsewhere, set_there}, PoolShards.in_shards, PoolKept.pool_reset}}
 
 module _ {B : Type 0} where
   -- THE SET CHANGES, and who clears: of task t as much, of any other the same
@@ -152,97 +149,24 @@ module _ {B : Type 0} where
     pub polled : is_polled slot'.cell.phase ≡ is_polled slot.cell.phase
     pub over : is_complete slot.cell.phase ≡ true → is_complete slot'.cell.phase ≡ true
 
-  module _ (t i : ℕ) (d d' : Duties) (tasks tasks' : List (TaskSlot B)) (set : Set (Unit {0})) (seats : List Chair) (slot slot' : TaskSlot B) (there : slice_get tasks t ≡ Some slot) (ordinary : slot.home ≡ None) (items : tasks' ≡ slice_set tasks t slot') (duties : Clears t i d d') (cleared : IsCleared slot slot') (pool : IsPool d tasks set seats) where
-    now : slice_get tasks' t ≡ Some slot'
-    now = ap (λ ts. slice_get ts t) items ∙ set_there tasks t slot' slot there
-
-    on : (u : ℕ) (o : TaskSlot B) → u ≢ t → slice_get tasks u ≡ Some o → slice_get tasks' u ≡ Some o
-    on u o other at = ap (λ ts. slice_get ts u) items ∙ set_elsewhere tasks t u slot' other ∙ at
-
-    was : (u : ℕ) (o : TaskSlot B) → u ≢ t → slice_get tasks' u ≡ Some o → slice_get tasks u ≡ Some o
-    was u o other at = sym (set_elsewhere tasks t u slot' other) ∙ ap (λ ts. slice_get ts u) (sym items) ∙ at
-
-    is_new : (u : ℕ) (o : TaskSlot B) → u ≡ t → slice_get tasks' u ≡ Some o → slot' ≡ o
-    is_new u o same at = same_Some slot' o (sym now ∙ subst (λ m. slice_get tasks' m ≡ Some o) same at)
-
-    -- it stood nowhere else
-    none : d'.clears t + in_set t set ≡ 0
-    none =
-        let few = (pool.live t slot there ordinary).most in
-        omega (arith, few, duties.one)
-
-    live_here : IsHeldOnce slot' (d'.clears t + in_set t set)
-    live_here = record { most = omega (arith, none); cleared = λ h. none; live = λ h. absurd (false≢true (sym h ∙ cleared.cleared)) }
-
-    live : (u : ℕ) (o : TaskSlot B) → slice_get tasks' u ≡ Some o → o.home ≡ None → IsHeldOnce o (d'.clears u + in_set u set)
-    live u o at home =
-        by_number u t
-        (λ other. subst (λ n. IsHeldOnce o (n + in_set u set)) (sym (duties.others u other)) (pool.live u o (was u o other at) home))
-        (λ same. subst (λ m. IsHeldOnce o (d'.clears m + in_set m set)) (sym same) (subst (λ (y : TaskSlot B). IsHeldOnce y (d'.clears t + in_set t set)) (is_new u o same at) live_here))
-
-    only : (u : ℕ) → 0 < d'.clears u + in_set u set → (o : TaskSlot B) × (slice_get tasks' u ≡ Some o) × (o.home ≡ None)
-    only u some =
-        by_number u t
-        (λ other.
-        let it = pool.only u (subst (λ n. 0 < n + in_set u set) (duties.others u other) some) in
-        (it.0, on u it.0 other it.1, it.2))
-        (λ same. (slot', subst (λ m. slice_get tasks' m ≡ Some slot') (sym same) now, cleared.home ∙ ordinary))
-
-    who_polls : (u : ℕ) (o : TaskSlot B) → slice_get tasks' u ≡ Some o → o.home ≡ None → is_polled o.cell.phase ≡ true → IsBefore o.poller seats × (d'.polled_by o.poller ≡ Some u)
-    who_polls u o at home polled =
-        by_number u t
-        (λ other. let it = pool.who_polls u o (was u o other at) home polled in (it.0, duties.polls o.poller ∙ it.1))
-        (λ same.
-        let e = is_new u o same at in
-        let it = pool.who_polls t slot there ordinary (sym cleared.polled ∙ ap (λ (y : TaskSlot B). is_polled y.cell.phase) e ∙ polled) in
-        let poller : slot.poller ≡ o.poller = sym cleared.poller ∙ ap (λ (y : TaskSlot B). y.poller) e in
-        subst (λ m. IsBefore o.poller seats × (d'.polled_by o.poller ≡ Some m)) (sym same)
-        (subst (λ j. IsBefore j seats × (d'.polled_by j ≡ Some t)) poller (it.0, duties.polls slot.poller ∙ it.1)))
-
-    positive_none : (n m : ℕ) → n + m ≡ 0 → 0 < n → ⊥
-    positive_none n m zero_sum some = omega (arith, zero_sum, some)
-
-    who_clears : (u : ℕ) → 0 < d'.clears u → (j : ℕ) × IsBefore j seats × ((d'.drops_by j).clears ≡ Some u) × (set.closed ≡ true)
-    who_clears u some =
-        by_number u t
-        (λ other.
-        let it = pool.who_clears u (subst (λ n. 0 < n) (duties.others u other) some) in
-        let apart : it.0 ≢ i = λ same. other (same_Some u t (sym it.2 ∙ ap (λ j. (d.drops_by j).clears) same ∙ duties.its)) in
-        (it.0, it.1, ap (λ x. x.clears) (duties.drops it.0 apart) ∙ it.2, it.3))
-        (λ same. absurd (positive_none (d'.clears t) (in_set t set) none (subst (λ m. 0 < d'.clears m) same some)))
-
-    over_still : (u : ℕ) → IsOver u tasks → IsOver u tasks'
-    over_still u it =
-        by_number u t
-        (λ other. record { slot = it.slot; there = on u it.slot other it.there; ordinary = it.ordinary; over = it.over })
-        (λ same.
-        let e : slot ≡ it.slot = same_Some slot it.slot (sym there ∙ subst (λ m. slice_get tasks m ≡ Some it.slot) same it.there) in
-        record {
-          slot = slot';
-          there = subst (λ m. slice_get tasks' m ≡ Some slot') (sym same) now;
-          ordinary = cleared.home ∙ ordinary;
-          over = cleared.over (ap (λ (y : TaskSlot B). is_complete y.cell.phase) e ∙ it.over);
-        })
-
-    clear_shut : (u : ℕ) (o : TaskSlot B) → slice_get tasks' u ≡ Some o → o.home ≡ None → o.cleared ≡ true → set.closed ≡ true
-    clear_shut u o at home is =
-        by_number u t
-        (λ other. pool.clear_shut u o (was u o other at) home is)
-        (λ same. (pool.who_clears t (omega (arith, duties.one))).3)
-
-    -- it takes out none
-    was_so : (j u : ℕ) → (d'.drops_by j).removes ≡ Some u → (d.drops_by j).removes ≡ Some u
-    was_so j u is =
-        by_number j i
-        (λ apart. sym (ap (λ x. x.removes) (duties.drops j apart)) ∙ is)
-        (λ same. absurd (let never : None ≡ Some u = sym duties.removes ∙ subst (λ k. (d'.drops_by k).removes ≡ Some u) same is in cc))
-
-    removes : (j u : ℕ) → (d'.drops_by j).removes ≡ Some u → IsOver u tasks' × ((set.closed ≡ true) ⊎ (in_set u set ≡ 1))
-    removes j u is = let old = pool.removes j u (was_so j u is) in (over_still u old.0, old.1)
-
-    alone : (j k u : ℕ) → (d'.drops_by j).removes ≡ Some u → (d'.drops_by k).removes ≡ Some u → j ≡ k
-    alone j k u a b = pool.alone j k u (was_so j u a) (was_so k u b)
-
-    pub pool_cleared : IsPool d' tasks' set seats
-    pool_cleared =
-        record { live = live; home = pool.home; only = only; who_polls = who_polls; who_clears = who_clears; clear_shut = clear_shut; removes = removes; alone = alone; drained = pool.drained; mail = pool.mail; shut = pool.shut }
+  pub pool_cleared : (t i : ℕ) (d d' : Duties) (tasks tasks' : List (TaskSlot B)) (set : Set (Unit {0})) (seats : List Chair) (slot slot' : TaskSlot B) → slice_get tasks t ≡ Some slot → slot.home ≡ None → tasks' ≡ slice_set tasks t slot' → Clears t i d d' → IsCleared slot slot' → IsPool d tasks set seats → IsPool d' tasks' set seats
+  pool_cleared t i d d' tasks tasks' set seats slot slot' there ordinary items duties cleared pool =
+      -- it stood nowhere else
+      let none : d'.clears t + in_set t set ≡ 0 = let few = (pool.live t slot there ordinary).most in omega (arith, few, duties.one) in
+      pool_reset t i d d' tasks tasks' set seats slot slot' there items (record {
+        home = cleared.home;
+        live = λ home old. record { most = omega (arith, none); cleared = λ h. none; live = λ h. absurd (false≢true (sym h ∙ cleared.cleared)) };
+        shut = λ home is. (pool.who_clears t (omega (arith, duties.one))).3;
+        over = λ home. cleared.over;
+        fewer = λ u. by_number u t (λ other. omega (arith, duties.others u other)) (λ same. rw same (omega (arith, duties.one)));
+        clears_beside = duties.others;
+        polls_beside = λ j other. duties.polls j;
+        drops_beside = duties.drops;
+        polls_others = λ u other is. duties.polls i ∙ is;
+        polls = λ home polled.
+            let it = pool.who_polls t slot there home (sym cleared.polled ∙ polled) in
+            (subst (λ j. IsBefore j seats) (sym cleared.poller) it.0, ap d'.polled_by cleared.poller ∙ duties.polls slot.poller ∙ it.1);
+        clears_next = λ u some is. absurd (omega (arith, none, subst (λ m. 0 < d'.clears m) (same_Some u t (sym is ∙ duties.its)) some));
+        -- it takes out none
+        removes_next = λ u is. absurd (let never : None ≡ Some u = sym duties.removes ∙ is in cc);
+      }) pool

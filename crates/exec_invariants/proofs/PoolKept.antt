@@ -1,9 +1,5 @@
 -- What holds of the task set and of the mailboxes of all stays, where seats, tasks, the set or what a worker does change.
-use Rattle.std.proofs.{Common.{◌≡◌, ◌≢◌, ◌⊎◌, inl, inr, ⊎_elim, ℕ, zero, suc, ◌+◌, ◌<◌, ◌==◌, Bool, true, false, List, Option, Some, None, refl, sym, ap, subst, ◌∙◌, arith, slice_get, slice_set, if◌then◌else◌}, lemmas.Bool.{false≢true, eq-eqb}}
-use Rattle.exec_task.specs.{Phases.is_polled, TaskSet.Set}
-use Rattle.exec_moves.specs.Seen.{polls_at}
-use Rattle.exec_parts.{specs.{declared.parts.{seat.Seat.Seat as Chair, task_slot.TaskSlot.TaskSlot, worker.Worker.Worker}, MailPosts.IsMailbox, Phased.is_complete}, proofs.Facts.{by_number, false_from_ne_true, not_same, same_number, same_Some, set_elsewhere, set_there}}
-use Rattle.exec_invariants.specs.{Drained.{Duties, HaveLeft, IsBefore, IsHeldOnce, IsOver, IsPool, in_set}, Places.{Drops, drops_at, is_number}, Spares.SparesChair, Whole.{Profile, duties_of, with_worker}}
+use Rattle.exec_invariants.{specs.{Drained.{Duties, HaveLeft, IsBefore, IsHeldOnce, IsOver, IsPool, in_set}, Places.{Drops, drops_at, is_number}, Spares.SparesChair, Whole.{Profile, duties_of, with_worker}}, proofs.{Words.{◌≡◌, ◌≢◌, ◌⊎◌, inl, inr, ⊎_elim, ℕ, zero, suc, ◌+◌, ◌<◌, ◌==◌, Bool, true, false, List, Option, Some, None, refl, sym, ap, subst, ◌∙◌, arith, slice_get, slice_set, if◌then◌else◌, false≢true, eq-eqb, is_polled, Set, polls_at, Chair, TaskSlot, Worker, IsMailbox, is_complete, by_number, false_from_ne_true, not_same, same_number, same_Some, set_elsewhere, set_there, ◌≤◌}, HoldRedo.{set_on, set_back}}}
 
 -- SEATS show the same of the shutdown, and hold one message at most
 
@@ -29,20 +25,7 @@ gates_same seats seats' same =
 
 pub gates_set : (i : ℕ) (seats seats' : List Chair) (chair chair' : Chair) → seats' ≡ slice_set seats i chair' → slice_get seats i ≡ Some chair → KeepsGate chair chair' → KeepsGates seats seats'
 gates_set i seats seats' chair chair' set there keeps =
-    let now : slice_get (slice_set seats i chair') i ≡ Some chair' = set_there seats i chair' chair there in
-    let on : (j : ℕ) (c : Chair) → slice_get seats j ≡ Some c → (c' : Chair) × (slice_get (slice_set seats i chair') j ≡ Some c') × KeepsGate c c' = λ j c at.
-    by_number j i
-    (λ other. (c, set_elsewhere seats i j chair' other ∙ at, gate_same c))
-    (λ same.
-    let is : chair ≡ c = same_Some chair c (sym there ∙ subst (λ n. slice_get seats n ≡ Some c) same at) in
-    (chair', subst (λ n. slice_get (slice_set seats i chair') n ≡ Some chair') (sym same) now, subst (λ y. KeepsGate y chair') is keeps)) in
-    let back : (j : ℕ) (c : Chair) → slice_get (slice_set seats i chair') j ≡ Some c → (was : Chair) × (slice_get seats j ≡ Some was) × KeepsGate was c = λ j c at.
-    by_number j i
-    (λ other. (c, sym (set_elsewhere seats i j chair' other) ∙ at, gate_same c))
-    (λ same.
-    let is : chair' ≡ c = same_Some chair' c (sym now ∙ subst (λ n. slice_get (slice_set seats i chair') n ≡ Some c) same at) in
-    (chair, subst (λ n. slice_get seats n ≡ Some chair) (sym same) there, subst (KeepsGate chair) is keeps)) in
-    subst (KeepsGates seats) (sym set) (record { on = on; back = back })
+    record { on = set_on (λ n. KeepsGate) seats seats' i chair chair' there set keeps (λ n. gate_same); back = set_back (λ n. KeepsGate) seats seats' i chair chair' there set keeps (λ n. gate_same) }
 
 pub before_kept : (j : ℕ) (seats seats' : List Chair) → KeepsGates seats seats' → IsBefore j seats → IsBefore j seats'
 before_kept = grind arith
@@ -114,10 +97,25 @@ module _ {B : Type 0} where
     pub clears_next : (d'.drops_by i).clears ≡ (d.drops_by i).clears
     pub removes_next : (u : ℕ) → (d'.drops_by i).removes ≡ Some u → ((d.drops_by i).removes ≡ Some u) ⊎ ((u ≡ t) × (slot.home ≡ None) × (is_complete slot'.cell.phase ≡ true) × (is_complete slot.cell.phase ≡ false))
 
+  -- what is to be known of any such change, as where the task was cleared
+  pub record Resets (t i : ℕ) (d d' : Duties) (set : Set (Unit {0})) (slot slot' : TaskSlot B) (seats : List Chair) : Type 0 where
+    pub home : slot'.home ≡ slot.home
+    pub live : slot.home ≡ None → IsHeldOnce slot (d.clears t + in_set t set) → IsHeldOnce slot' (d'.clears t + in_set t set)
+    pub shut : slot.home ≡ None → slot'.cleared ≡ true → set.closed ≡ true
+    pub over : slot.home ≡ None → is_complete slot.cell.phase ≡ true → is_complete slot'.cell.phase ≡ true
+    pub fewer : (u : ℕ) → d'.clears u ≤ d.clears u
+    pub clears_beside : (u : ℕ) → u ≢ t → d'.clears u ≡ d.clears u
+    pub polls_beside : (j : ℕ) → j ≢ i → d'.polled_by j ≡ d.polled_by j
+    pub drops_beside : (j : ℕ) → j ≢ i → d'.drops_by j ≡ d.drops_by j
+    pub polls_others : (u : ℕ) → u ≢ t → d.polled_by i ≡ Some u → d'.polled_by i ≡ Some u
+    pub polls : slot.home ≡ None → is_polled slot'.cell.phase ≡ true → IsBefore slot'.poller seats × (d'.polled_by slot'.poller ≡ Some t)
+    pub clears_next : (u : ℕ) → 0 < d'.clears u → (d.drops_by i).clears ≡ Some u → (d'.drops_by i).clears ≡ Some u
+    pub removes_next : (u : ℕ) → (d'.drops_by i).removes ≡ Some u → ((d.drops_by i).removes ≡ Some u) ⊎ ((u ≡ t) × (slot.home ≡ None) × (is_complete slot'.cell.phase ≡ true) × (is_complete slot.cell.phase ≡ false))
+
   held_again : (slot slot' : TaskSlot B) (n m : ℕ) → n ≡ m → slot'.cleared ≡ slot.cleared → (is_complete slot.cell.phase ≡ true → is_complete slot'.cell.phase ≡ true) → IsHeldOnce slot n → IsHeldOnce slot' m
   held_again = grind arith
 
-  module _ (t i : ℕ) (d d' : Duties) (tasks tasks' : List (TaskSlot B)) (set : Set (Unit {0})) (seats : List Chair) (slot slot' : TaskSlot B) (there : slice_get tasks t ≡ Some slot) (items : tasks' ≡ slice_set tasks t slot') (redoes : Redoes t i d d' slot slot' seats) (pool : IsPool d tasks set seats) where
+  module _ (t i : ℕ) (d d' : Duties) (tasks tasks' : List (TaskSlot B)) (set : Set (Unit {0})) (seats : List Chair) (slot slot' : TaskSlot B) (there : slice_get tasks t ≡ Some slot) (items : tasks' ≡ slice_set tasks t slot') (resets : Resets t i d d' set slot slot' seats) (pool : IsPool d tasks set seats) where
     now : slice_get tasks' t ≡ Some slot'
     now = ap (λ ts. slice_get ts t) items ∙ set_there tasks t slot' slot there
 
@@ -136,20 +134,20 @@ module _ {B : Type 0} where
     live : (u : ℕ) (o : TaskSlot B) → slice_get tasks' u ≡ Some o → o.home ≡ None → IsHeldOnce o (d'.clears u + in_set u set)
     live u o at home =
         by_number u t
-        (λ other. subst (λ n. IsHeldOnce o (n + in_set u set)) (sym (redoes.clears u)) (pool.live u o (was u o other at) home))
+        (λ other. subst (λ n. IsHeldOnce o (n + in_set u set)) (sym (resets.clears_beside u other)) (pool.live u o (was u o other at) home))
         (λ same.
         let e = is_new u o same at in
-        let old_home : slot.home ≡ None = sym redoes.home ∙ ap (λ (y : TaskSlot B). y.home) e ∙ home in
+        let old_home : slot.home ≡ None = sym resets.home ∙ ap (λ (y : TaskSlot B). y.home) e ∙ home in
         subst (λ m. IsHeldOnce o (d'.clears m + in_set m set)) (sym same)
         (subst (λ (y : TaskSlot B). IsHeldOnce y (d'.clears t + in_set t set)) e
-        (held_again slot slot' (d.clears t + in_set t set) (d'.clears t + in_set t set) (ap (λ n. n + in_set t set) (sym (redoes.clears t))) (redoes.cleared old_home) (redoes.over old_home) (pool.live t slot there old_home))))
+        (resets.live old_home (pool.live t slot there old_home))))
 
     only : (u : ℕ) → 0 < d'.clears u + in_set u set → (o : TaskSlot B) × (slice_get tasks' u ≡ Some o) × (o.home ≡ None)
     only u some =
-        let it = pool.only u (subst (λ n. 0 < n + in_set u set) (redoes.clears u) some) in
+        let it = pool.only u (omega (arith, some, resets.fewer u)) in
         by_number u t
         (λ other. (it.0, on u it.0 other it.1, it.2))
-        (λ same. (slot', subst (λ m. slice_get tasks' m ≡ Some slot') (sym same) now, redoes.home ∙ ap (λ (y : TaskSlot B). y.home) (is_old u it.0 same it.1) ∙ it.2))
+        (λ same. (slot', subst (λ m. slice_get tasks' m ≡ Some slot') (sym same) now, resets.home ∙ ap (λ (y : TaskSlot B). y.home) (is_old u it.0 same it.1) ∙ it.2))
 
     who_polls : (u : ℕ) (o : TaskSlot B) → slice_get tasks' u ≡ Some o → o.home ≡ None → is_polled o.cell.phase ≡ true → IsBefore o.poller seats × (d'.polled_by o.poller ≡ Some u)
     who_polls u o at home polled =
@@ -157,25 +155,24 @@ module _ {B : Type 0} where
         let it = pool.who_polls u o (was u o other at) home polled in (
           it.0,
           by_number o.poller i
-              (λ apart. redoes.polls_beside o.poller apart ∙ it.1)
-              (λ same. subst (λ j. d'.polled_by j ≡ Some u) (sym same) (redoes.polls_others u other (subst (λ j. d.polled_by j ≡ Some u) same it.1))),
+              (λ apart. resets.polls_beside o.poller apart ∙ it.1)
+              (λ same. subst (λ j. d'.polled_by j ≡ Some u) (sym same) (resets.polls_others u other (subst (λ j. d.polled_by j ≡ Some u) same it.1))),
         ) in
         let here : u ≡ t → IsBefore o.poller seats × (d'.polled_by o.poller ≡ Some u) = λ same.
         let e = is_new u o same at in
-        let old_home : slot.home ≡ None = sym redoes.home ∙ ap (λ (y : TaskSlot B). y.home) e ∙ home in
-        let it = redoes.polls old_home (ap (λ (y : TaskSlot B). is_polled y.cell.phase) e ∙ polled) in
+        let it = resets.polls (sym resets.home ∙ ap (λ (y : TaskSlot B). y.home) e ∙ home) (ap (λ (y : TaskSlot B). is_polled y.cell.phase) e ∙ polled) in
         subst (λ m. IsBefore o.poller seats × (d'.polled_by o.poller ≡ Some m)) (sym same)
         (subst (λ (y : TaskSlot B). IsBefore y.poller seats × (d'.polled_by y.poller ≡ Some t)) e it) in
         by_number u t beside here
 
     who_clears : (u : ℕ) → 0 < d'.clears u → (j : ℕ) × IsBefore j seats × ((d'.drops_by j).clears ≡ Some u) × (set.closed ≡ true)
     who_clears u some =
-        let it = pool.who_clears u (subst (λ n. 0 < n) (redoes.clears u) some) in (
+        let it = pool.who_clears u (omega (arith, some, resets.fewer u)) in (
           it.0,
           it.1,
           by_number it.0 i
-              (λ apart. ap (λ x. x.clears) (redoes.drops_beside it.0 apart) ∙ it.2)
-              (λ same. subst (λ j. (d'.drops_by j).clears ≡ Some u) (sym same) (redoes.clears_next ∙ subst (λ j. (d.drops_by j).clears ≡ Some u) same it.2)),
+              (λ apart. ap (λ x. x.clears) (resets.drops_beside it.0 apart) ∙ it.2)
+              (λ same. subst (λ j. (d'.drops_by j).clears ≡ Some u) (sym same) (resets.clears_next u some (subst (λ j. (d.drops_by j).clears ≡ Some u) same it.2))),
           it.3,
         )
 
@@ -185,8 +182,7 @@ module _ {B : Type 0} where
         (λ other. pool.clear_shut u o (was u o other at) home is)
         (λ same.
         let e = is_new u o same at in
-        let old_home : slot.home ≡ None = sym redoes.home ∙ ap (λ (y : TaskSlot B). y.home) e ∙ home in
-        pool.clear_shut t slot there old_home (sym (redoes.cleared old_home) ∙ ap (λ (y : TaskSlot B). y.cleared) e ∙ is))
+        resets.shut (sym resets.home ∙ ap (λ (y : TaskSlot B). y.home) e ∙ home) (ap (λ (y : TaskSlot B). y.cleared) e ∙ is))
 
     over_still : (u : ℕ) → IsOver u tasks → IsOver u tasks'
     over_still u it =
@@ -198,8 +194,8 @@ module _ {B : Type 0} where
         record {
           slot = slot';
           there = subst (λ m. slice_get tasks' m ≡ Some slot') (sym same) now;
-          ordinary = redoes.home ∙ old_home;
-          over = redoes.over old_home (ap (λ (y : TaskSlot B). is_complete y.cell.phase) e ∙ it.over);
+          ordinary = resets.home ∙ old_home;
+          over = resets.over old_home (ap (λ (y : TaskSlot B). is_complete y.cell.phase) e ∙ it.over);
         })
 
     -- one that was live stands in the set, unless that is closed
@@ -217,15 +213,15 @@ module _ {B : Type 0} where
     removes : (j u : ℕ) → (d'.drops_by j).removes ≡ Some u → IsOver u tasks' × ((set.closed ≡ true) ⊎ (in_set u set ≡ 1))
     removes j u is =
         by_number j i
-        (λ apart. let old = pool.removes j u (sym (ap (λ x. x.removes) (redoes.drops_beside j apart)) ∙ is) in (over_still u old.0, old.1))
+        (λ apart. let old = pool.removes j u (sym (ap (λ x. x.removes) (resets.drops_beside j apart)) ∙ is) in (over_still u old.0, old.1))
         (λ same.
         ⊎_elim
         (λ before. let old = pool.removes i u before in (over_still u old.0, old.1))
         (λ ended. (
-          record { slot = slot'; there = subst (λ m. slice_get tasks' m ≡ Some slot') (sym ended.0) now; ordinary = redoes.home ∙ ended.1; over = ended.2 },
+          record { slot = slot'; there = subst (λ m. slice_get tasks' m ≡ Some slot') (sym ended.0) now; ordinary = resets.home ∙ ended.1; over = ended.2 },
           subst (λ m. (set.closed ≡ true) ⊎ (in_set m set ≡ 1)) (sym ended.0) (stands ended.1 ended.3),
         ))
-        (redoes.removes_next u (subst (λ k. (d'.drops_by k).removes ≡ Some u) same is)))
+        (resets.removes_next u (subst (λ k. (d'.drops_by k).removes ≡ Some u) same is)))
 
     -- nobody else takes it out, as it was going on until then
     mine_and : (k u : ℕ) → (d'.drops_by i).removes ≡ Some u → (d.drops_by k).removes ≡ Some u → i ≡ k
@@ -234,13 +230,12 @@ module _ {B : Type 0} where
         (λ before. pool.alone i k u before other)
         (λ ended.
         let old = (pool.removes k u other).0 in
-        let e = is_old u old.slot ended.0 old.there in
-        absurd (false≢true (sym ended.3 ∙ ap (λ (y : TaskSlot B). is_complete y.cell.phase) e ∙ old.over)))
-        (redoes.removes_next u is)
+        absurd (false≢true (sym ended.3 ∙ ap (λ (y : TaskSlot B). is_complete y.cell.phase) (is_old u old.slot ended.0 old.there) ∙ old.over)))
+        (resets.removes_next u is)
 
     alone : (j k u : ℕ) → (d'.drops_by j).removes ≡ Some u → (d'.drops_by k).removes ≡ Some u → j ≡ k
     alone j k u a b =
-        let was_so : (m : ℕ) → m ≢ i → (d'.drops_by m).removes ≡ Some u → (d.drops_by m).removes ≡ Some u = λ m apart is. sym (ap (λ x. x.removes) (redoes.drops_beside m apart)) ∙ is in
+        let was_so : (m : ℕ) → m ≢ i → (d'.drops_by m).removes ≡ Some u → (d.drops_by m).removes ≡ Some u = λ m apart is. sym (ap (λ x. x.removes) (resets.drops_beside m apart)) ∙ is in
         by_number j i
         (λ j_apart.
         by_number k i
@@ -251,9 +246,18 @@ module _ {B : Type 0} where
         (λ k_apart. j_same ∙ mine_and k u (subst (λ m. (d'.drops_by m).removes ≡ Some u) j_same a) (was_so k k_apart b))
         (λ k_same. j_same ∙ sym k_same))
 
-    pub pool_slot : IsPool d' tasks' set seats
-    pool_slot =
+    pub pool_reset : IsPool d' tasks' set seats
+    pool_reset =
         record { live = live; home = pool.home; only = only; who_polls = who_polls; who_clears = who_clears; clear_shut = clear_shut; removes = removes; alone = alone; drained = pool.drained; mail = pool.mail; shut = pool.shut }
+
+  pub pool_slot : (t i : ℕ) (d d' : Duties) (tasks tasks' : List (TaskSlot B)) (set : Set (Unit {0})) (seats : List Chair) (slot slot' : TaskSlot B) → slice_get tasks t ≡ Some slot → tasks' ≡ slice_set tasks t slot' → Redoes t i d d' slot slot' seats → IsPool d tasks set seats → IsPool d' tasks' set seats
+  pool_slot t i d d' tasks tasks' set seats slot slot' there items it pool =
+      let live : slot.home ≡ None → IsHeldOnce slot (d.clears t + in_set t set) → IsHeldOnce slot' (d'.clears t + in_set t set) = λ home. held_again slot slot' (d.clears t + in_set t set) (d'.clears t + in_set t set) (ap (λ n. n + in_set t set) (sym (it.clears t))) (it.cleared home) (it.over home) in
+      let shut : slot.home ≡ None → slot'.cleared ≡ true → set.closed ≡ true = λ home is. pool.clear_shut t slot there home (sym (it.cleared home) ∙ is) in
+      let fewer : (u : ℕ) → d'.clears u ≤ d.clears u = λ u. omega (arith, it.clears u) in
+      let clears_beside : (u : ℕ) → u ≢ t → d'.clears u ≡ d.clears u = λ u other. it.clears u in
+      let clears_next : (u : ℕ) → 0 < d'.clears u → (d.drops_by i).clears ≡ Some u → (d'.drops_by i).clears ≡ Some u = λ u some is. it.clears_next ∙ is in
+      pool_reset t i d d' tasks tasks' set seats slot slot' there items (assumption (live, shut, fewer, clears_beside, clears_next, it)) pool
 
   -- ONCE ALL HAVE PASSED THE BARRIER, one of them the worker of this chair, each ordinary task is over, as one that is
   -- neither polled nor over isn't cleared
@@ -275,5 +279,4 @@ module _ {B : Type 0} where
       by : (b : Bool) → is_complete slot.cell.phase ≡ b → is_complete slot.cell.phase ≡ true
       by true is = is
       by false is =
-          let one = (pool.live t slot there home).live (uncleared t slot there home unpolled is) is in
-          absurd (omega (arith, one, none (d.clears t) refl, (pool.drained i chair at left).1 t))
+          absurd (omega (arith, (pool.live t slot there home).live (uncleared t slot there home unpolled is) is, none (d.clears t) refl, (pool.drained i chair at left).1 t))

@@ -1,8 +1,5 @@
 -- How often a task stands in the task set, each in its own shard, and what a drain has passed of it.
-use Rattle.std.{proofs.{Common.{[], ◌≡◌, ◌≢◌, ℕ, zero, suc, ◌+◌, ◌<◌, ◌≤◌, ◌==◌, List, ◌∷◌, ◌++◌, length, sum_by, None, refl, ap, ◌∙◌, arith, cond, slice_index_or, slice_set, ◌%◌}, lemmas.{Bool.cases_lt, List.{length-set, Sums.{sum_by-append, sum_by-cons}}}}}
-use Rattle.exec_task.specs.{TaskSet.{AreAtHome, IsFor, Set, TakesNewest, at_number, passed, shard_at}, declared.drain.Drain.Drain}
-use Rattle.exec_parts.{specs.Phased.HasPassed, proofs.Facts.{by_number}}
-use Rattle.exec_invariants.specs.{Drained.in_set, Places.one_if}
+use Rattle.exec_invariants.{specs.{Drained.in_set, Places.one_if}, proofs.Words.{[], ◌≡◌, ◌≢◌, ℕ, zero, suc, ◌+◌, ◌<◌, ◌≤◌, ◌==◌, List, ◌∷◌, ◌++◌, length, sum_by, None, refl, ap, ◌∙◌, arith, cond, slice_index_or, slice_set, ◌%◌, cases_lt, length-set, sum_by-append, sum_by-cons, AreAtHome, IsFor, Set, TakesNewest, at_number, set_passed as passed, shard_at, Drain, HasPassed, by_number}}
 
 -- HOW OFTEN A TASK STANDS IN THE SET
 
@@ -15,9 +12,7 @@ in_shards t shards = sum_by (in_shard t) shards
 none_in_shards : (t : ℕ) (shards : List (List (ℕ × Unit {0}))) → ((k : ℕ) → slice_index_or shards k [] ≡ []) → in_shards t shards ≡ 0
 none_in_shards t [] none = refl
 none_in_shards t (x ∷ xs) none =
-    let here : in_shard t x ≡ 0 = ap (in_shard t) (none zero) in
-    let rest : in_shards t xs ≡ 0 = none_in_shards t xs (λ k. none (suc k)) in
-    omega (arith, sum_by-cons (in_shard t) x xs, here, rest)
+    omega (arith, sum_by-cons (in_shard t) x xs, ap (in_shard t) (none zero), none_in_shards t xs (λ k. none (suc k)))
 
 pub none_in_set : (t : ℕ) (set : Set (Unit {0})) → ((k : ℕ) → shard_at set k ≡ []) → in_set t set ≡ 0
 none_in_set t set none = none_in_shards t set.shards none
@@ -26,8 +21,7 @@ pub shards_set : (t : ℕ) (shards : List (List (ℕ × Unit {0}))) (k : ℕ) (s
 shards_set t [] k shard few = absurd (omega (arith, few))
 shards_set t (x ∷ xs) zero shard few = omega (arith, sum_by-cons (in_shard t) shard xs, sum_by-cons (in_shard t) x xs)
 shards_set t (x ∷ xs) (suc k) shard few =
-    let rest = shards_set t xs k shard (omega (arith, few)) in
-    omega (arith, sum_by-cons (in_shard t) x (slice_set xs k shard), sum_by-cons (in_shard t) x xs, rest)
+    omega (arith, sum_by-cons (in_shard t) x (slice_set xs k shard), sum_by-cons (in_shard t) x xs, shards_set t xs k shard (omega (arith, few)))
 
 one_of : (n t : ℕ) → in_shard t ((n, tt) ∷ []) ≡ one_if (n == t)
 one_of = grind arith
@@ -36,9 +30,8 @@ one_of = grind arith
 pub newest_taken : (t u at : ℕ) (old new : Set (Unit {0})) → at < length old.shards → TakesNewest at (record { 0 = record { 0 = t }; 1 = tt }) old new → in_set u old ≡ in_set u new + one_if (t == u)
 newest_taken t u at old new inside takes =
     let new_shard = shard_at new at in
-    let same : in_set u new ≡ in_shards u (slice_set old.shards at new_shard) = ap (λ z. in_shards u z.shards) takes.others in
     let was : in_shard u (slice_index_or old.shards at []) ≡ in_shard u new_shard + in_shard u ((t, tt) ∷ []) = ap (in_shard u) takes.newest ∙ sum_by-append (λ (e : ℕ × Unit {0}). cond (e.0 == u) 1 0) new_shard ((t, tt) ∷ []) in
-    omega (arith, same, was, one_of t u, shards_set u old.shards at new_shard inside)
+    omega (arith, ap (λ z. in_shards u z.shards) takes.others, was, one_of t u, shards_set u old.shards at new_shard inside)
 
 pub shard_elsewhere : (shards : List (List (ℕ × Unit {0}))) (i k : ℕ) (shard : List (ℕ × Unit {0})) → k ≢ i → slice_index_or (slice_set shards i shard) k [] ≡ slice_index_or shards k []
 shard_elsewhere [] i k shard other = refl

@@ -1,12 +1,6 @@
 -- Where a pop of the own run queue leads, and what is so there.
-use Rattle.std.proofs.{Common.{[], ◌≡◌, ◌≢◌, ℕ, zero, suc, ◌+◌, ◌-◌, ◌*◌, ◌<◌, ◌==◌, inl, inr, Bool, true, false, Contains, List, ◌∷◌, length, None, Some, refl, ap, subst, ◌∙◌, arith, option_to_list, if◌then◌else◌}, lemmas.{Bool.{Decides.nat_tests, false≢true}, List.{length-map, Elements.Contains-push_cases}}}
+use Rattle.exec_invariants.{specs.{Places.has_loot_at, Sound.{has_wakes_at, HasRunnable, IsHeld, IsLoot, root_in_hand, SoundAt}, Names.tellers, Whole.IsGenuine}, proofs.{Words.{[], ◌≡◌, ◌≢◌, ℕ, zero, suc, ◌+◌, ◌-◌, ◌*◌, ◌<◌, ◌==◌, inl, inr, Bool, true, false, Contains, List, ◌∷◌, length, None, Some, refl, ap, subst, ◌∙◌, arith, option_to_list, if◌then◌else◌, nat_tests, false≢true, length-map, Contains-push_cases, Queue, head_of, popped, tail_of, IsFor, Set, Drain, Runnable, Configuration, Turn, AfterLeave, AfterPop, InPop, InClosing, InPoll, Place, after_empty_pop, after_pop, drain_by, judge_pop, load_pop_head, pops, power_from, shard_count, Desk, does, turns, is_pool, driver_of, queue_seen, Shared, Worker, HasPassed, IsPhased, Stage, is_discard, IsTold, leave_of, by_number, not_same}, Dedicated.chair_of_pool, Queueing.{Around, Reaches, still_of}}}
 pub use Rattle.std.proofs.lemmas.Bool.{and_parts}
-use Rattle.exec_words.specs.Queue.{Queue, head_of, popped, tail_of}
-use Rattle.exec_task.specs.{TaskSet.{IsFor, Set}, declared.{drain.Drain.Drain, runnable.Runnable.Runnable}}
-use Rattle.exec_machine.specs.declared.{config.Configuration.Configuration, event.Event.TheVariants.Turn}
-use Rattle.exec_moves.specs.{declared.{handing.{AfterLeave.AfterLeave, AfterPop.AfterPop, InPop.InPop}, place.{InClosing.InClosing, InPoll.InPoll, Place.Place}}, Pop.{after_empty_pop, after_pop, drain_by, judge_pop, load_pop_head, pops, power_from, shard_count}, State.{Desk, does, turns}}
-use Rattle.exec_parts.{specs.{Roles.is_pool, View.{driver_of, queue_seen}, declared.parts.{shared.Shared.Shared, worker.Worker.Worker}, Phased.{HasPassed, IsPhased, Stage}, Pooled.is_discard, Calls.IsTold, Tests.leave_of}, proofs.Facts.{by_number, not_same}}
-use Rattle.exec_invariants.{specs.{Places.has_loot_at, Sound.{has_wakes_at, HasRunnable, IsHeld, IsLoot, root_in_hand, SoundAt}, Names.tellers, Whole.IsGenuine}, proofs.{Dedicated.chair_of_pool, Queueing.{Around, Reaches, still_of}}}
 
 -- WHAT A POP IS TO THE QUEUE THAT IS SEEN
 

@@ -1,13 +1,7 @@
 -- What a message that wakes the root of a worker makes of its seat, and what is seen of that.
 --
 -- Into a closed inbox it doesn't go, beside another one it is left out, and else it is the first of a batch, or joins one.
-use Rattle.std.{proofs.{Common.{◌≡◌, ◌++◌, ℕ, Bool, true, false, not, List, [], ◌∷◌, append_assoc, cond, count_by, map, Some, refl, sym, ap, ◌∙◌, arith, slice_get, slice_set, option_map}, lemmas.{Bool.false≢true, List.{map-append, set-get_or, Folds.list_any-append, Sums.{sum_by-append}}, Option.{get_or_from_slice_get, slice_get-map}}}, specs.List.list_any}
-use Rattle.exec_words.specs.{Inbox.{has_any, is_wake_root}, Word.{asks_signal, next_batch}, declared.{inbox.Message.Message, mailbox.Mailbox.Mailbox as Box, word.PureWord.PureWord}}
-use Rattle.exec_machine.specs.{declared.{event.Event.{Event, TheVariants.{Closed, Send}}, state.MailMessage.{TheVariants.Root}}, Choice.{Choice, Payer, Choice.{Plain, Posts}}, Mail.{has_root_message, is_root_message, posted}, Tests.is_empty, World.{Common, Seat, seat_of}}
-use Rattle.exec_moves.specs.{Send.{Mailbox, posting}, State.{Things, inbox_of}, Thing.{mailbox_of, set_inbox, set_mailbox, set_word}}
-use Rattle.exec_parts.{specs.{declared.parts.{mail.Subject.Subject, seat.Seat.Seat as Chair, shared.Shared.Shared}, Pooled.{asks_if_sent, chair_sent, event_sent}, View.{Views, Visible, inbox_at, message_of, polls_seen, queue_at, seat_seen, things_with, word_at}}, proofs.{Facts.or_right, Mailboxes.none_any}}
-use Rattle.exec_invariants.proofs.Showing.{map_kept, map_set, own_word_seen, polls_kept}
-use Rattle.exec_invariants.{specs.{Holding.Mail, Spares.SparesChair}, proofs.{Aside.spared, Turning.set_found}}
+use Rattle.exec_invariants.{specs.{Holding.Mail, Spares.SparesChair}, proofs.{Words.{◌≡◌, ◌++◌, ℕ, Bool, true, false, not, List, [], ◌∷◌, append_assoc, cond, count_by, map, Some, refl, sym, ap, ◌∙◌, arith, slice_get, slice_set, option_map, false≢true, map-append, set-get_or, list_any-append, sum_by-append, get_or_from_slice_get, slice_get-map, list_any, has_any, is_wake_root, asks_signal, next_batch, Message, Box, PureWord, Event, Closed, Send, Root, Choice, Payer, Plain, Posts, has_root_message, is_root_message, seat_posted as posted, is_empty, Common, Seat, seat_of, Mailbox, posting, Things, inbox_of, mailbox_of, set_inbox, set_mailbox, set_word, Subject, Chair, Shared, asks_if_sent, chair_sent, event_sent, Views, Visible, inbox_at, message_of, polls_seen, queue_at, seat_seen, things_with, word_at, or_right, none_any}, Showing.{map_kept, map_set, own_word_seen, polls_kept}, Aside.spared, Turning.set_found}}
 
 -- WHAT STANDS IN AN INBOX, and what is seen of it
 

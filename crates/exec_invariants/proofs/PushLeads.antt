@@ -1,11 +1,5 @@
 -- Where a push leads whose runnable is in a queue now, or was let go: the hands are empty.
-use Rattle.std.proofs.{Common.{[], ◌≡◌, ◌+◌, ◌==◌, ◌&&◌, ◌||◌, Bool, true, false, Some, None, refl, sym, ap, subst, ◌∙◌, slice_get}, lemmas.Bool.false≢true}
-use Rattle.std.proofs.Common.{arith}
-use Rattle.exec_words.specs.Queue.{Queue}
-use Rattle.exec_task.specs.declared.runnable.Runnable.{Runnable}
-use Rattle.exec_moves.specs.{declared.{handing.{AfterKick.AfterKick, AfterPush.AfterPush, InKick.InKick}, place.{InPick.InPick, InPoll.InPoll, Place.Place}}, Seen.{polls_at, polls_for}}
-use Rattle.exec_parts.specs.{declared.parts.{seat.Seat.Seat as Chair, shared.Shared.Shared, worker.Worker.Worker}, Phased.{IsPhased, closes_at, closing_in, stage_of}, Roles.is_pool, Calls.IsTold, Tests.{after_push_of, next_callback_of}, View.driver_of}
-use Rattle.exec_invariants.{specs.{HoldPlaces.spare_at, Kinds.Kind, Places.{begins_at, calls_back_at, has_count_at, has_loot_at, hands_on_at, is_armed_at, is_pooled_at, is_published_at, pooled_push, searches_at, task_at}, Sound.{Aims, HasBatch, HasQueue, IsLeft, IsSearching, LetsGoAt, Serves, SoundAt, has_wakes_at}, Names.tellers}, proofs.{Handed.{IsPushFor, NextComes}, Idled.hush_of, Queueing.{Around, Carries, Reaches, if_either, still_of}}}
+use Rattle.exec_invariants.{specs.{HoldPlaces.spare_at, Kinds.Kind, Places.{begins_at, calls_back_at, has_count_at, has_loot_at, hands_on_at, is_armed_at, is_pooled_at, is_published_at, pooled_push, searches_at, task_at}, Sound.{Aims, HasBatch, HasQueue, IsLeft, IsSearching, LetsGoAt, Serves, SoundAt, has_wakes_at}, Names.tellers}, proofs.{Words.{[], ◌≡◌, ◌+◌, ◌==◌, ◌&&◌, ◌||◌, Bool, true, false, Some, None, refl, sym, ap, subst, ◌∙◌, slice_get, false≢true, arith, Queue, Runnable, AfterKick, AfterPush, InKick, InPick, InPoll, Place, polls_at, polls_for, Chair, Shared, Worker, IsPhased, closes_at, closing_in, stage_of, is_pool, IsTold, after_push_of, next_callback_of, driver_of}, Handed.{IsPushFor, NextComes}, Idled.hush_of, Queueing.{Around, Carries, Reaches, if_either, still_of}}}
 
 -- what a place says but of the hands, a search count, a closing and the callbacks
 abbrev stilled : Kind → Kind
@@ -40,7 +34,6 @@ module _ {B : Type 0} where
           carries = carries p refl refl refl refl (λ no. absurd (false≢true no)) (subst (λ o. Serves o w.root w.role) task sound.serves) tt (rw (← is.spare) sound.told);
         }
     push_reaches AfterPush.Pick sound next is same wakes pooled task =
-        let pool : is_pool w.role ≡ true = sound.pooled pooled in
         if_either (λ z. Reaches q z w v s t) (w.picks == 0) Place.TakeRootFlag (Place.Pick InPick.CountDown)
         (record {
           same = same;
@@ -52,7 +45,7 @@ module _ {B : Type 0} where
           same = same;
           quiet = λ h. sound.quiet (sym wakes);
           around = around (Place.Pick InPick.CountDown) refl (λ x held. held) tt (λ no. absurd (false≢true no)) (λ no. absurd (false≢true no)) (rw (← is.closing, ← is.closes) sound.phased);
-          carries = carries (Place.Pick InPick.CountDown) refl refl refl tt (λ h. pool) tt tt (rw (← is.spare) sound.told);
+          carries = carries (Place.Pick InPick.CountDown) refl refl refl tt (λ h. (sound.pooled pooled)) tt tt (rw (← is.spare) sound.told);
         })
     push_reaches (AfterPush.CallBack n) sound next is same wakes pooled task =
         let task_none : (p : Place) → begins_at p ≡ None → polls_at p ≡ None → task_at p ≡ None = λ p begins polls. rw (begins, polls) refl in

@@ -1,13 +1,5 @@
 -- What the steps of a push into the own run queue are to the machine.
-use Rattle.std.proofs.{Common.{◌≡◌, ℕ, ◌+◌, ◌-◌, ◌<◌, ◌≤◌, ◌==◌, ◌&&◌, ◌⊎◌, inl, inr, Bool, true, false, Contains, List, [], ◌++◌, drop, length, Option, None, Some, refl, sym, ap, subst, ◌∙◌, arith, length-drop, option_to_list, slice_get, slice_set, if◌then◌else◌, nat_le, nat_lt, option_map}, lemmas.{List.{append-nil, drop-map, length-append, length-map, take-map, Elements.{Contains-append_cases, Contains-append_left, Contains-append_right}}}}
-use Rattle.std.proofs.lemmas.Bool.{ltb-true, ltb-false}
-use Rattle.exec_words.specs.{Head.{is_spent}, Queue.{Queue, fit_of, head_of, newest, overflowed, published, restored, room_of, tail_of}, Reserved.extended, declared.head.{Fit.Fit, Head.Head}}
-use Rattle.exec_task.specs.declared.{body.Said.Said, runnable.Runnable.Runnable}
-use Rattle.exec_machine.specs.{declared.{event.Event.{Event, TheVariants.Turn}}, Choice.Choice.Plain, Progress.Plan}
-use Rattle.exec_moves.specs.{declared.{handing.{AfterKick.AfterKick, AfterPush.AfterPush, InGlobal.InGlobal, InKick.InKick, InPush.InPush}, place.Place.Place}, Move.move_at, Parts.has_others, Pop.same_head, Push.{after_fit, flow_over, in_hand, load_push_head, store_oldest, store_value}, State.{Moved, queue_of, turns}, Thing.with_queue}
-use Rattle.exec_parts.{specs.{Tests.after_push_of, declared.parts.{seat.Seat.Seat as Chair, shared.Shared.Shared, worker.Worker.Worker}, Phased.TurnsChair, Pooled.{OfChair, overflowed_if, with_overflow}, Spots.Spot, View.{Views, common_of, desk_of, own_of, queue_seen, tasks_of, things_of, things_with}, Things.{Goes, Makes}}, proofs.Facts.same_number}
-use Rattle.exec_invariants.proofs.{Showing.own_queue_seen, Claiming.same_heads}
-use Rattle.exec_invariants.{specs.{Places.{begins_at, has_loot_at}, Sound.{HasQueue, SoundAt}, Whole.{HasWhole, IsGenuine, queued, runnables_in}, Works.{Steps, Suits}}, proofs.{PushLeads.{ArrivesAt, CarriesNone, push_reaches}, Handed.{IsPushFor, PushNext, push_seen}, Aside.told_on, Queued.{hands_of, whole_queued}, Queueing.{Reaches, around_own, hands_own, if_either, poses, requeued_own}, Thieves.{in_both, in_parts, left_from, published_seen, taken_from}, Turning.{GoesOn, set_found}}}
+use Rattle.exec_invariants.{specs.{Places.{begins_at, has_loot_at}, Sound.{HasQueue, SoundAt}, Whole.{HasWhole, IsGenuine, queued, runnables_in}, Works.{Steps, Suits}}, proofs.{Words.{◌≡◌, ℕ, ◌+◌, ◌-◌, ◌<◌, ◌≤◌, ◌==◌, ◌&&◌, ◌⊎◌, inl, inr, Bool, true, false, Contains, List, [], ◌++◌, drop, length, Option, None, Some, refl, sym, ap, subst, ◌∙◌, arith, length-drop, option_to_list, slice_get, slice_set, if◌then◌else◌, nat_le, nat_lt, option_map, append-nil, drop-map, length-append, length-map, take-map, Contains-append_cases, Contains-append_left, Contains-append_right, ltb-true, ltb-false, is_spent, Queue, fit_of, head_of, newest, overflowed, published, restored, room_of, tail_of, extended, Fit, Head, Said, Runnable, Event, Turn, Plain, Plan, AfterKick, AfterPush, InGlobal, InKick, InPush, Place, move_at, has_others, same_head, after_fit, flow_over, in_hand, load_push_head, store_oldest, store_value, Moved, queue_of, turns, with_queue, after_push_of, Chair, Shared, Worker, TurnsChair, OfChair, overflowed_if, with_overflow, Spot, Views, common_of, desk_of, own_of, queue_seen, tasks_of, things_of, things_with, Goes, Makes, same_number}, Showing.own_queue_seen, Claiming.same_heads, PushLeads.{ArrivesAt, CarriesNone, push_reaches}, Handed.{IsPushFor, PushNext, push_seen}, Aside.told_on, Queued.{hands_of, whole_queued}, Queueing.{Reaches, around_own, hands_own, if_either, poses, requeued_own}, Thieves.{in_both, in_parts, left_from, published_seen, taken_from}, Turning.{GoesOn, set_found}}}
 
 -- THE QUEUE THAT IS SEEN
 
@@ -42,10 +34,9 @@ module _ {B L : Type 0} (left : B → L) (spot : L → Option Said → Spot) (x 
       → Reaches (Place.Push x b) v.place w v s s' → w' ≡ v → Moving (record { event = Turn; choice = Plain; desk = desk_of v; thing = queue_seen y }) → Steps left spot w s e w' s'
   pushed y v pushes on searching set grows gap count older to goes moves =
       let q = Place.Push x b in
-      let sound = pushes.sound in
       subst (λ z. Steps left spot w s e z s') (sym goes)
-      (requeued_own left spot its y q w v s s' e sound pushes.turn on pushes.kept pushes.there set grows refl refl to
-      (λ others before. whole_queued others w.index its y w v s s' pushes.kept pushes.there set (hands_own w.index its.queue y w v (poses q w v s sound to.same searching (ap (λ (z : Worker). z.index) on.same) (told_on w v s.clock on)) count gap) older before)
+      (requeued_own left spot its y q w v s s' e pushes.sound pushes.turn on pushes.kept pushes.there set grows refl refl to
+      (λ others before. whole_queued others w.index its y w v s s' pushes.kept pushes.there set (hands_own w.index its.queue y w v (poses q w v s pushes.sound to.same searching (ap (λ (z : Worker). z.index) on.same) (told_on w v s.clock on)) count gap) older before)
       moves)
 
   -- the queue is as it was
@@ -101,11 +92,10 @@ module _ {B L : Type 0} (left : B → L) (spot : L → Option Said → Spot) (b 
 
       to_push : (y : InPush) (fit : Fit) → fit_of q ≡ fit → after_fit b (head_of q) fit ≡ Place.Push y b → has_loot_at (Place.Push y b) ≡ false → HasQueue (Place.Push y b) q → Steps left spot w s e w' s'
       to_push y fit is place bare queue =
-          let next : Place = Place.Push y b in
           to fit is (subst (λ z. Reaches here z w (record w { place = z }) s s') (sym place) (record {
             same = refl;
             quiet = λ h. sound.quiet h;
-            around = around_own next w s s' its q there set sound.seated queue tt sound.batch (sound.batch_place its there) sound.lets_go (sound.phased its there);
+            around = around_own (Place.Push y b) w s s' its q there set sound.seated queue tt sound.batch (sound.batch_place its there) sound.lets_go (sound.phased its there);
             carries = record { runnable = sound.runnable; hand = sound.hand; loot = rw bare sound.loot; genuine = sound.genuine; stolen = sound.stolen; searching = sound.searching; pooled = sound.pooled; serves = sound.serves; calm = sound.calm; left = sound.left; told = sound.told };
           }))
 
@@ -216,10 +206,9 @@ module _ {B L : Type 0} (left : B → L) (spot : L → Option Said → Spot) (b 
           let taken : v.loot.values ≡ drop 128 values = ap (λ xs. xs ++ drop 128 values) none in
           let count : (t : ℕ) → runnables_in t (hands_of v) + runnables_in t (y.values ++ y.held) ≡ runnables_in t (hands_of w) + runnables_in t (queued its) = λ t.
           let hand = option_to_list w.hand in
-          let mine = ap (runnables_in t) taken in
           let was = ap (runnables_in t) none in
           let held = ap (runnables_in t) knows.0 in
-          omega (arith, in_both t hand v.loot.values, in_both t hand w.loot.values, in_parts t 128 values, in_both t values its.queue.held, mine, was, held) in
+          omega (arith, in_both t hand v.loot.values, in_both t hand w.loot.values, in_parts t 128 values, in_both t values its.queue.held, ap (runnables_in t) taken, was, held) in
           let older : (r : Runnable) → Contains (y.values ++ y.held) r → Contains (queued its) r ⊎ IsGenuine s.tasks.items r = λ r has_r. inl (Contains-append_left values its.queue.held r (taken_from 128 values r has_r)) in
           let heads : (h.real ≡ its.queue.real) × (h.gap ≡ its.queue.gap) = same_heads h (head_of its.queue) is in
           let full : length values ≡ 256 = omega (arith, knows.1, heads.0) in
@@ -253,7 +242,6 @@ module _ {B L : Type 0} (left : B → L) (spot : L → Option Said → Spot) (b 
           (λ p vs suits. ap (with_queue w.index (things_with vs s)) now)
       by false is goes set =
           let next : Place = Place.Push InPush.LoadPushHead b in
-          let now : f ≡ turns next (desk_of w) (queue_seen its.queue) = seen ∙ rw is refl in
           held_on left spot x b w w' s s' e its next pushes set
           (record {
             same = refl;
@@ -261,7 +249,7 @@ module _ {B L : Type 0} (left : B → L) (spot : L → Option Said → Spot) (b 
             around = around_own next w s s' its its.queue there set sound.seated knows.0 tt sound.batch (sound.batch_place its there) sound.lets_go (sound.phased its there);
             carries = record { runnable = sound.runnable; hand = sound.hand; loot = sound.loot; genuine = sound.genuine; stolen = sound.stolen; searching = sound.searching; pooled = sound.pooled; serves = sound.serves; calm = sound.calm; left = sound.left; told = sound.told };
           })
-          goes (λ p vs suits. ap (with_queue w.index (things_with vs s)) now)
+          goes (λ p vs suits. ap (with_queue w.index (things_with vs s)) (seen ∙ rw is refl))
 
   -- THE OLDEST HALF IS STORED
 

@@ -1,12 +1,5 @@
 -- Where one run queue changes, and what is in the hands of the worker: what that leaves of the balances, and where it leads.
-use Rattle.std.proofs.{Common.{◌≡◌, ◌≢◌, ℕ, zero, suc, ◌+◌, ◌*◌, ◌<◌, ◌≤◌, ◌==◌, Bool, true, false, not, ◌⊎◌, inl, inr, Contains, List, [], ◌∷◌, ◌++◌, length, map, sum_by, Option, None, Some, refl, sym, ap, subst, ◌∙◌, arith, option_to_list, slice_get, slice_set}, lemmas.{Bool.false≢true, List.{length-set, Sums.sum_by-cons}, Option.slice_get_within}}
-use Rattle.exec_words.specs.{Queue.Queue, Reserved.Reserved}
-use Rattle.exec_task.specs.declared.{body.Said.Said, runnable.Runnable.Runnable}
-use Rattle.exec_machine.specs.{declared.{event.Event.{Event, TheVariants.Turn}, state.Next.Next}, Choice.Choice.Plain, Progress.Plan}
-use Rattle.exec_moves.specs.{declared.place.Place.Place, Move.move_at, Seen.{next_at, polls_at, serves_at}, Thing.set_queue}
-use Rattle.exec_parts.{specs.{Roles.is_pool, declared.parts.{seat.Seat.Seat as Chair, shared.Shared.Shared, worker.Worker.Worker}, Phased.{closes_at, closing_in, IsPhased, Stage, stage_of}, Spots.Spot, View.{Views, common_of, desk_of, own_of, queue_seen, seats_seen, things_with}}, proofs.Facts.{by_number, set_elsewhere, set_there}}
-use Rattle.exec_invariants.proofs.Showing.{map_kept, queue_shows, seats_kept}
-use Rattle.exec_invariants.{specs.{Gates.HaveGates, Holding.box_of, Kinds.{Kind, lowered}, Places.{claims_at, drops_at, has_count_at, has_loot_at, is_armed_at, is_pooled_at, is_published_at, one_if, searches_at, step_of_poll, in_poll_of, begins_at, hands_on_at, polled_in}, Sound.{Aims, HasBatch, HasQueue, IsLoot, IsSeated, IsSearching, SoundAt, has_wakes_at, IsTied, HasRunnable, root_in_hand, IsInHand, IsHeld}, Whole.{HasOne, IsGenuine, IsWhole, Profile, claimed_count, duties_of, is_number, may_let_go, queued, runnables_in, stock, with_worker}, Works.{Steps, Suits}}, proofs.{Aside.{hands_same, SameTold, spares_turn, SparesSeats}, Counting.Stance, Idled.{calm_of, guest_again, guest_calm, Settles, step_again, stops_again, stops_calm, step_if}, PoolKept.{drops_same, gates_set, pool_of, pool_seats}, Turning.{Arrives, GoesOn, IsTurn, lower_on, OfKind, pool_low, turned}}}
+use Rattle.exec_invariants.{specs.{Gates.HaveGates, Holding.box_of, Kinds.{Kind, lowered}, Places.{claims_at, drops_at, has_count_at, has_loot_at, is_armed_at, is_pooled_at, is_published_at, one_if, searches_at, step_of_poll, in_poll_of, begins_at, hands_on_at, polled_in}, Sound.{Aims, HasBatch, HasQueue, IsLoot, IsSeated, IsSearching, SoundAt, has_wakes_at, IsTied, HasRunnable, root_in_hand, IsInHand, IsHeld}, Whole.{HasOne, IsGenuine, IsWhole, Profile, claimed_count, duties_of, is_number, may_let_go, queued, runnables_in, stock, with_worker}, Works.{Steps, Suits}}, proofs.{Words.{◌≡◌, ◌≢◌, ℕ, zero, suc, ◌+◌, ◌*◌, ◌≤◌, ◌==◌, Bool, true, false, not, ◌⊎◌, inl, inr, Contains, List, [], ◌∷◌, ◌++◌, length, map, sum_by, Option, None, Some, refl, sym, ap, subst, ◌∙◌, arith, option_to_list, slice_get, slice_set, false≢true, length-set, sum_by-cons, slice_get_within, Queue, Reserved, Said, Runnable, Event, Turn, Next, Plain, Plan, Place, move_at, next_at, polls_at, serves_at, set_queue, is_pool, Chair, Shared, Worker, closes_at, closing_in, IsPhased, Stage, stage_of, Spot, Views, common_of, desk_of, own_of, queue_seen, seats_seen, things_with, by_number, set_elsewhere, set_there}, Showing.{map_kept, queue_shows, seats_kept}, Aside.{hands_same, SameTold, spares_turn, SparesSeats}, Counting.Stance, Idled.{calm_of, guest_again, guest_calm, Settles, step_again, stops_again, stops_calm, step_if}, PoolKept.{drops_same, gates_set, pool_of, pool_seats}, Turning.{Arrives, GoesOn, lower_on, OfKind, pool_low, turned}}}
 
 -- SUMS
 
@@ -34,6 +27,15 @@ pub record Hands (k : ℕ) (q q' : Queue Runnable) (w w' : Worker) : Type 0 wher
   pub claims_beside : (j : ℕ) → j ≢ k → is_number (claims_at w'.place) j ≡ is_number (claims_at w.place) j
   pub claims : one_if (is_number (claims_at w'.place) k) + one_if (not (q.gap == 0)) ≡ one_if (is_number (claims_at w.place) k) + one_if (not (q'.gap == 0))
 
+-- WHERE IT LEADS
+
+-- what a place says but of counts, the idle set, loot and claims
+abbrev pub bare_of : Place → Kind
+bare_of p = record (calm_of p) { loot = true; claims = None }
+
+any_loot : (b : Bool) (loot : Reserved Runnable) → IsLoot b loot → IsLoot true loot
+any_loot b loot h = record { places = h.places; few = h.few; none = λ is. absurd (false≢true (sym is)) }
+
 module _ {B : Type 0} where
   pub whole_queued : (others : Profile) (k : ℕ) (its : Chair) (q' : Queue Runnable) (w w' : Worker) (s s' : Shared B) → s' ≡ record s { seats = s'.seats } → slice_get s.seats.items k ≡ Some its → s'.seats.items ≡ slice_set s.seats.items k (record its { queue = q' })
       → Hands k its.queue q' w w' → ((r : Runnable) → Contains (q'.values ++ q'.held) r → Contains (queued its) r ⊎ IsGenuine s.tasks.items r) → IsWhole (with_worker others w) s → IsWhole (with_worker others w') s'
@@ -47,9 +49,7 @@ module _ {B : Type 0} where
       let is_its : (j : ℕ) (chair : Chair) → j ≡ k → slice_get s'.seats.items j ≡ Some chair → its' ≡ chair = λ j chair same at_j. cc (sym now, subst (λ n. slice_get s'.seats.items n ≡ Some chair) same at_j) in
       let number : (t : ℕ) → (with_worker others w').runnables t + stock t s1 ≡ (with_worker others w).runnables t + stock t s = λ t.
       let f : Chair → ℕ = λ chair. runnables_in t (queued chair) in
-      let sum : sum_by f s'.seats.items + f its ≡ sum_by f s.seats.items + f its' = ap (λ xs. sum_by f xs + f its) set ∙ sum_set f s.seats.items k its its' there in
-      omega (arith, sum, hands.runnables t) in
-      let many : length s'.seats.items ≡ length s.seats.items = ap length set ∙ length-set s.seats.items k its' in
+      omega (arith, ap (λ xs. sum_by f xs + f its) set ∙ sum_set f s.seats.items k its its' there, hands.runnables t) in
       let claimed : claimed_count (with_worker others w') s1 ≡ claimed_count (with_worker others w) s = rw (hands.index, hands.published) refl in
       let done : IsWhole (with_worker others w') s1 = record {
         runnables = λ t slot at_t home. subst (HasOne (may_let_go s) slot.cell.phase) (sym (number t)) (whole.runnables t slot at_t home);
@@ -58,8 +58,7 @@ module _ {B : Type 0} where
             by_number j k
             (λ other. rw (hands.claims_beside j other) (whole.claims j chair (was j chair other at_j)))
             (λ same.
-            let mine : (with_worker others w').claims k ≡ one_if (not (q'.gap == 0)) = omega (arith, whole.claims k its there, hands.claims) in
-            rw (← is_its j chair same at_j, same) mine);
+            rw (← is_its j chair same at_j, same) (omega (arith, whole.claims k its there, hands.claims)));
         counts = rw (claimed, hands.searching, hands.counts) whole.counts;
         bits = λ j h. rw (hands.index, hands.published) (whole.bits j h);
         set = whole.set;
@@ -67,8 +66,7 @@ module _ {B : Type 0} where
             by_number j k
             (λ other. whole.queued_here j chair r (was j chair other at_j) has)
             (λ same.
-            let it : Contains (q'.values ++ q'.held) r = subst (λ (c : Chair). Contains (queued c) r) (sym (is_its j chair same at_j)) has in
-            elim (genuine r it) [
+            elim (genuine r (subst (λ (c : Chair). Contains (queued c) r) (sym (is_its j chair same at_j)) has)) [
               | inl before ↦ whole.queued_here k its r there before
               | inr is ↦ is
             ]);
@@ -76,9 +74,8 @@ module _ {B : Type 0} where
         places = whole.places;
         made = λ t more. let none = whole.made t more in (number t ∙ none.0, rw hands.polls none.1);
         unclaimed = λ j more.
-            let beyond : length s.seats.items ≤ j = subst (λ n. n ≤ j) many more in
-            let inside : k < length s.seats.items = slice_get_within s.seats.items k its there in
-            rw (hands.claims_beside j (λ same. omega (arith, beyond, inside, same))) (whole.unclaimed j beyond);
+            let beyond : length s.seats.items ≤ j = subst (λ n. n ≤ j) (ap length set ∙ length-set s.seats.items k its') more in
+            rw (hands.claims_beside j (λ same. omega (arith, beyond, slice_get_within s.seats.items k its there, same))) (whole.unclaimed j beyond);
         in_pool = λ j chair at_j.
             let was_j = (gates_set k s.seats.items s'.seats.items its its' set there (record { left = refl; pool = refl; closed = refl; mail = λ h. h })).back j chair at_j in
             was_j.2.pool ∙ whole.in_pool j was_j.0 was_j.1;
@@ -90,16 +87,6 @@ module _ {B : Type 0} where
       } in
       subst (IsWhole (with_worker others w')) (sym kept) done
 
--- WHERE IT LEADS
-
--- what a place says but of counts, the idle set, loot and claims
-abbrev pub bare_of : Place → Kind
-bare_of p = record (calm_of p) { loot = true; claims = None }
-
-any_loot : (b : Bool) (loot : Reserved Runnable) → IsLoot b loot → IsLoot true loot
-any_loot b loot h = record { places = h.places; few = h.few; none = λ is. absurd (false≢true (sym is)) }
-
-module _ {B : Type 0} where
   pub record Leads (q q' : Place) (w v : Worker) (s t : Shared B) : Type 0 where
     pub same : bare_of q' ≡ lowered w.role (is_pooled_at q') (bare_of q)
     pub calm : is_pool w.role ≡ false → v.searching ≡ false
@@ -117,12 +104,11 @@ module _ {B : Type 0} where
 
   of_bare : (q q' : Place) (w : Worker) (s : Shared B) → SoundAt q w s → bare_of q' ≡ lowered w.role (is_pooled_at q') (bare_of q) → OfKind (bare_of q') w s
   of_bare q q' w s sound same =
-      let loot = any_loot (has_loot_at q) w.loot sound.loot in
       let tied : IsTied (in_poll_of w.root (polls_at q) (step_if (polls_at q) (step_of_poll q))) w.index w.root s.tasks.items = rw (step_again w.root (polls_at q) (step_of_poll q)) sound.tied in
       let pooled = pool_low (is_pooled_at q') (is_pooled_at q) (is_pool w.role) sound.pooled in
       let guest = guest_calm (polls_at q) (step_of_poll q) w.index w.root s.tasks.items sound.guest in
       let stops = stops_calm (polls_at q) (step_of_poll q) w.index s.tasks.items s.requests.items s.sleepers.items sound.stops in
-      subst (λ k. OfKind k w s) (sym same) (assumption (loot, pooled, guest, stops, tied, tt, sound))
+      subst (λ k. OfKind k w s) (sym same) (assumption (any_loot (has_loot_at q) w.loot sound.loot, pooled, guest, stops, tied, tt, sound))
 
   pub led_on : (q q' : Place) (w v : Worker) (s t : Shared B) → SoundAt q w s → Leads q q' w v s t → Arrives q' w v s t
   led_on q q' w v s t sound to =
@@ -137,12 +123,10 @@ module _ {B : Type 0} where
       let phased : (chair : Chair) → slice_get t.seats.items w.index ≡ Some chair → IsPhased w.index (closes_at q') (closing_in q') w.home.closing w.root w.names.unreleased (stage_of chair s) s.tasks.items = λ chair there.
       let was = to.stage chair there in
       subst (λ stage. IsPhased w.index (closes_at q') (closing_in q') w.home.closing w.root w.names.unreleased stage s.tasks.items) was.2 (it.phased was.0 was.1) in
-      let guest = guest_again (polls_at q') (step_of_poll q') w.index w.root s.tasks.items it.guest in
       let stops = stops_again (polls_at q') (step_of_poll q') w.index s.tasks.items s.requests.items s.sleepers.items it.stops in
       let tied : IsTied (polled_in w.root q') w.index w.root s.tasks.items = rw (← step_again w.root (polls_at q') (step_of_poll q')) it.tied in
-      assumption (runnable, hand, genuine, batch_place, quiet, phased, guest, stops, tied, to, it)
+      assumption (runnable, hand, genuine, batch_place, quiet, phased, guest_again (polls_at q') (step_of_poll q') w.index w.root s.tasks.items it.guest, stops, tied, to, it)
 
-module _ {B : Type 0} where
   -- to what a place of the same kind settles at, with the seats as they are then
   pub leads_to : (q r q' : Place) (z : Stance) (w v : Worker) (s t : Shared B) → t ≡ record s { seats = t.seats } → bare_of r ≡ lowered w.role (is_pooled_at r) (bare_of q) → has_wakes_at r ≡ has_wakes_at q → Settles r q' z w t → v.root_ready ≡ w.root_ready → v.hand ≡ w.hand → v.searching ≡ z.searching → (is_pool w.role ≡ false → v.searching ≡ false)
       → IsLoot (has_loot_at q') v.loot → ((r : Runnable) → Contains v.loot.values r → IsGenuine s.tasks.items r) → IsSeated w.index (is_armed_at r) s.config.workers t.seats.items
@@ -154,18 +138,16 @@ module _ {B : Type 0} where
       let quiet : has_wakes_at q' ≡ false → has_wakes_at q ≡ false = λ h. sym wakes ∙ to.quiet h in
       assumption (same, calm, root_ready, hand, subst (IsSearching (searches_at q')) (sym searching) to.searches, loot, stolen, seated_then, aims, quiet, stage, to)
 
-module _ {B L : Type 0} (left : B → L) (spot : L → Option Said → Spot) where
-  -- A plain turn by which the run queue of worker k becomes this.
-  pub requeued : (k : ℕ) (its : Chair) (x : Queue Runnable) (q : Place) (w w' : Worker) (s s' : Shared B) (e : Event) → SoundAt q w s → e ≡ Turn → GoesOn w w' s.clock
-      → s' ≡ record s { seats = s'.seats } → slice_get s.seats.items k ≡ Some its → s'.seats.items ≡ slice_set s.seats.items k (record its { queue = x })
-      → next_at q ≡ Next.Free → serves_at q ≡ false → Leads q w'.place w w' s s' → SparesSeats w.index s.seats.items s'.seats.items
-      → ((others : Profile) → IsWhole (with_worker others w) s → IsWhole (with_worker others w') s')
-      → ((p : Plan) (vs : Views) → Suits p vs w s → move_at p.config w.index (own_of w) (common_of left spot p vs s) (desk_of w) (things_with vs s) q ≡ record { event = Turn; choice = Plain; desk = desk_of w'; thing = set_queue k (things_with vs s) (queue_seen x) })
-      → Steps left spot w s e w' s'
-  requeued k its x q w w' s s' e sound event on kept there set free unserved to spares whole moves =
-      let shares : s' ≡ record s { seats = s'.seats; idle = s'.idle; global = s'.global } = subst (λ (z : Shared B). z ≡ record s { seats = z.seats; idle = z.idle; global = z.global }) (sym kept) refl in
-      let is : IsTurn w.workers q w'.place = grind arith in
-      turned left spot q w w' s s' e sound event on shares (ap (λ (z : Shared B). z.global.closed) kept)
-      (λ vs. ap (seats_seen vs) set ∙ seats_kept vs s.seats.items k its (record its { queue = x }) there (λ v. refl)) is (led_on q w'.place w w' s s' sound to)
-      (record { spares = λ j other. spares_turn w.index j s s' other shares spares; whole = whole })
-      (λ p vs suits. moves p vs suits ∙ ap (λ y. record { event = Turn; choice = Plain; desk = desk_of w'; thing = y }) (sym (queue_shows vs k s s'.seats.items its x there set (things_with vs s') (ap (things_with vs) kept))))
+-- A plain turn by which the run queue of worker k becomes this.
+pub requeued : {B L : Type 0} (left : B → L) (spot : L → Option Said → Spot) (k : ℕ) (its : Chair) (x : Queue Runnable) (q : Place) (w w' : Worker) (s s' : Shared B) (e : Event) → SoundAt q w s → e ≡ Turn → GoesOn w w' s.clock
+    → s' ≡ record s { seats = s'.seats } → slice_get s.seats.items k ≡ Some its → s'.seats.items ≡ slice_set s.seats.items k (record its { queue = x })
+    → next_at q ≡ Next.Free → serves_at q ≡ false → Leads q w'.place w w' s s' → SparesSeats w.index s.seats.items s'.seats.items
+    → ((others : Profile) → IsWhole (with_worker others w) s → IsWhole (with_worker others w') s')
+    → ((p : Plan) (vs : Views) → Suits p vs w s → move_at p.config w.index (own_of w) (common_of left spot p vs s) (desk_of w) (things_with vs s) q ≡ record { event = Turn; choice = Plain; desk = desk_of w'; thing = set_queue k (things_with vs s) (queue_seen x) })
+    → Steps left spot w s e w' s'
+requeued {B} left spot k its x q w w' s s' e sound event on kept there set free unserved to spares whole moves =
+    let shares : s' ≡ record s { seats = s'.seats; idle = s'.idle; global = s'.global } = subst (λ (z : Shared B). z ≡ record s { seats = z.seats; idle = z.idle; global = z.global }) (sym kept) refl in
+    turned left spot q w w' s s' e sound event on shares (ap (λ (z : Shared B). z.global.closed) kept)
+    (λ vs. ap (seats_seen vs) set ∙ seats_kept vs s.seats.items k its (record its { queue = x }) there (λ v. refl)) (grind arith) (led_on q w'.place w w' s s' sound to)
+    (record { spares = λ j other. spares_turn w.index j s s' other shares spares; whole = whole })
+    (λ p vs suits. moves p vs suits ∙ ap (λ y. record { event = Turn; choice = Plain; desk = desk_of w'; thing = y }) (sym (queue_shows vs k s s'.seats.items its x there set (things_with vs s') (ap (things_with vs) kept))))

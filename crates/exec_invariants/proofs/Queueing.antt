@@ -1,13 +1,6 @@
 -- Where the own run queue, the global queue and what is in the hands change, and nothing else that is shared: what such a
 -- turn leaves of the balances, and where it leads.
-use Rattle.std.proofs.{Common.{[], ◌≡◌, ℕ, ◌+◌, ◌*◌, ◌≤◌, ◌==◌, Bool, true, false, Contains, List, ◌++◌, length, map, Option, None, Some, refl, sym, ap, arith, subst, ◌∙◌, option_to_list, slice_get, slice_set, if◌then◌else◌}, lemmas.List.length-set}
-use Rattle.exec_words.specs.{Global.Global, Queue.{Queue, tail_of}}
-use Rattle.exec_task.specs.declared.{body.Said.Said, runnable.Runnable.Runnable}
-use Rattle.exec_machine.specs.{declared.{config.Configuration.Configuration, event.Event.{Event, TheVariants.Turn}, state.Next.Next}, Choice.Choice.Plain, Progress.Plan}
-use Rattle.exec_moves.specs.{declared.place.Place.Place, Move.move_at, Seen.{next_at, polls_at, serves_at}, State.{Moved, Things}, Thing.{set_global, set_queue, with_queue}}
-use Rattle.exec_parts.{specs.{Roles.is_pool, declared.parts.{seat.Seat.Seat as Chair, shared.Shared.Shared, task_slot.TaskSlot.TaskSlot, worker.Worker.Worker}, Phased.{IsPhased, closes_at, closing_in, stage_of}, Calls.IsTold, MailPosts.IsMailbox, Spots.Spot, View.{Views, common_of, desk_of, driver_of, inbox_at, own_of, polls_seen, queue_at, queue_seen, seats_seen, tasks_of, things_with, word_at}}, proofs.Facts.set_there}
-use Rattle.exec_invariants.proofs.Showing.{queue_shows, seats_kept}
-use Rattle.exec_invariants.{specs.{HoldPlaces.spare_at, Gates.HaveGates, Rooted.HearsNext, Due.IsDue, Flown.HasFlown, Kinds.{Kind, kind_of}, Places.{begins_at, calls_back_at, claims_at, drops_at, hands_on_at, has_count_at, has_loot_at, in_poll_of, is_armed_at, is_pooled_at, is_published_at, searches_at, step_of_poll, task_at}, Sound.{Aims, has_wakes_at, HasBatch, HasGuest, HasLetters, HasQueue, HasRunnable, IsHeld, IsInHand, IsLeft, IsLoot, IsSearching, IsSeated, IsTied, LetsGoAt, root_in_hand, Serves, SoundAt, Stops}, Names.tellers, Whole.{HasOne, IsGenuine, IsWhole, Profile, claimed_count, may_let_go, runnables_in, stock, with_worker}, Works.{Steps, Suits}}, proofs.{Dedicated.as_long, Aside.{hands_same, SameTold, seats_own, seats_same, spares_turn}, Idled.{guest_again, guest_calm, step_again, step_if, stops_again, stops_calm}, PoolKept.{drops_same, pool_of}, Queued.{Hands, hands_of}, Turning.{Arrives, GoesOn, IsTurn, turned}}}
+use Rattle.exec_invariants.{specs.{HoldPlaces.spare_at, Gates.HaveGates, Rooted.HearsNext, Due.IsDue, Flown.HasFlown, Kinds.{Kind, kind_of}, Places.{begins_at, calls_back_at, claims_at, drops_at, hands_on_at, has_count_at, has_loot_at, in_poll_of, is_armed_at, is_pooled_at, is_published_at, searches_at, step_of_poll, task_at}, Sound.{Aims, has_wakes_at, HasBatch, HasGuest, HasLetters, HasQueue, HasRunnable, IsHeld, IsInHand, IsLeft, IsLoot, IsSearching, IsSeated, IsTied, LetsGoAt, root_in_hand, Serves, SoundAt, Stops}, Names.tellers, Whole.{HasOne, IsGenuine, IsWhole, Profile, claimed_count, may_let_go, runnables_in, stock, with_worker}, Works.{Steps, Suits}}, proofs.{Words.{[], ◌≡◌, ℕ, ◌+◌, ◌*◌, ◌≤◌, ◌==◌, Bool, true, false, Contains, List, ◌++◌, length, map, Option, None, Some, refl, sym, ap, arith, subst, ◌∙◌, option_to_list, slice_get, slice_set, if◌then◌else◌, length-set, Global, Queue, tail_of, Said, Runnable, Configuration, Event, Turn, Next, Plain, Plan, Place, move_at, next_at, polls_at, serves_at, Moved, Things, set_global, set_queue, with_queue, is_pool, Chair, Shared, TaskSlot, Worker, IsPhased, closes_at, closing_in, stage_of, IsTold, IsMailbox, Spot, Views, common_of, desk_of, driver_of, inbox_at, own_of, polls_seen, queue_at, queue_seen, seats_seen, tasks_of, things_with, word_at, set_there}, Showing.{queue_shows, seats_kept}, Dedicated.as_long, Aside.{hands_same, SameTold, seats_own, seats_same, spares_turn}, Idled.{guest_again, guest_calm, step_again, step_if, stops_again, stops_calm}, PoolKept.{drops_same, pool_of}, Queued.{Hands, hands_of}, Turning.{Arrives, GoesOn, IsTurn, turned}}}
 
 -- THE BALANCES
 
@@ -31,6 +24,30 @@ pub record Poses (w w' : Worker) : Type 0 where
 -- runnables go between its hands and its run queue, where no claim of that comes or goes
 pub hands_own : (k : ℕ) (q q' : Queue Runnable) (w w' : Worker) → Poses w w' → ((t : ℕ) → runnables_in t (hands_of w') + runnables_in t (q'.values ++ q'.held) ≡ runnables_in t (hands_of w) + runnables_in t (q.values ++ q.held)) → (q'.gap == 0) ≡ (q.gap == 0) → Hands k q q' w w'
 hands_own = grind arith
+
+-- THE OWN SEAT, of which the run queue became this
+
+pub seated_own : (i workers : ℕ) (armed : Bool) (seats seats' : List Chair) (its : Chair) (x : Queue Runnable) → slice_get seats i ≡ Some its → seats' ≡ slice_set seats i (record its { queue = x }) → IsSeated i armed workers seats → IsSeated i armed workers seats'
+seated_own i workers armed seats seats' its x there set seated =
+    let is : seated.seat ≡ its = cc (seated.there, there) in
+    record {
+      many = as_long (ap length set ∙ length-set seats i (record its { queue = x })) seated.many;
+      seat = record its { queue = x };
+      there = ap (λ xs. slice_get xs i) set ∙ set_there seats i (record its { queue = x }) its there;
+      pool = ap (λ (c : Chair). c.pool) (sym is) ∙ seated.pool;
+      unarmed = λ h. ap (λ (c : Chair). c.mailbox.waker.target) (sym is) ∙ seated.unarmed h;
+      mail = subst (λ (c : Chair). IsMailbox c.mailbox) is seated.mail;
+    }
+
+-- it is there then
+pub own_now : (i : ℕ) (seats seats' : List Chair) (its chair : Chair) (x : Queue Runnable) → slice_get seats i ≡ Some its → seats' ≡ slice_set seats i (record its { queue = x }) → slice_get seats' i ≡ Some chair → record its { queue = x } ≡ chair
+own_now = grind (arith, set_there)
+
+-- WHERE IT LEADS
+
+-- what a place says but of the hands, of whether a search count is held, and of how far a closing is
+abbrev pub still_of : Place → Kind
+still_of p = record (kind_of p) { step = step_if (polls_at p) (step_of_poll p); closing = None; closes = false; begins = None; hands_on = false; loot = true; searches = None; pooled = false; calls = None; spare = 0; bare = false }
 
 module _ {B : Type 0} where
   -- the hands and the global queue change
@@ -58,31 +75,6 @@ module _ {B : Type 0} where
         holding = rw (hands_same others w w' same.index same.told) whole.holding;
       }
 
--- THE OWN SEAT, of which the run queue became this
-
-pub seated_own : (i workers : ℕ) (armed : Bool) (seats seats' : List Chair) (its : Chair) (x : Queue Runnable) → slice_get seats i ≡ Some its → seats' ≡ slice_set seats i (record its { queue = x }) → IsSeated i armed workers seats → IsSeated i armed workers seats'
-seated_own i workers armed seats seats' its x there set seated =
-    let is : seated.seat ≡ its = cc (seated.there, there) in
-    record {
-      many = as_long (ap length set ∙ length-set seats i (record its { queue = x })) seated.many;
-      seat = record its { queue = x };
-      there = ap (λ xs. slice_get xs i) set ∙ set_there seats i (record its { queue = x }) its there;
-      pool = ap (λ (c : Chair). c.pool) (sym is) ∙ seated.pool;
-      unarmed = λ h. ap (λ (c : Chair). c.mailbox.waker.target) (sym is) ∙ seated.unarmed h;
-      mail = subst (λ (c : Chair). IsMailbox c.mailbox) is seated.mail;
-    }
-
--- it is there then
-pub own_now : (i : ℕ) (seats seats' : List Chair) (its chair : Chair) (x : Queue Runnable) → slice_get seats i ≡ Some its → seats' ≡ slice_set seats i (record its { queue = x }) → slice_get seats' i ≡ Some chair → record its { queue = x } ≡ chair
-own_now = grind (arith, set_there)
-
--- WHERE IT LEADS
-
--- what a place says but of the hands, of whether a search count is held, and of how far a closing is
-abbrev pub still_of : Place → Kind
-still_of p = record (kind_of p) { step = step_if (polls_at p) (step_of_poll p); closing = None; closes = false; begins = None; hands_on = false; loot = true; searches = None; pooled = false; calls = None; spare = 0; bare = false }
-
-module _ {B : Type 0} where
   record Still (k : Kind) (w : Worker) (s : Shared B) : Type 0 where
     guest : HasGuest k.polls k.step w.index w.root s.tasks.items
     due : IsDue k.served w.home.closing w.index w.moments s.config w.names (driver_of w) w.home.timers s.requests.items s.sleepers.items

@@ -1,15 +1,6 @@
 -- A step that first takes in the wakes which wait at its worker's seat is to the machine what the rest of it is: the machine's
 -- wake poll is the ring's with those raised.
-use Rattle.std.proofs.{Common.{◌≡◌, ◌≢◌, ℕ, zero, suc, ◌+◌, ◌*◌, ◌≤◌, false, List, [], ◌∷◌, length, map, Option, Some, refl, sym, ap, subst, ◌∙◌, arith, slice_get, slice_set}, lemmas.{List.length-set, Option.get_or_from_slice_get}}
-use Rattle.exec_driver.specs.{Driving.Driving, Placed.ListsRequests}
-use Rattle.exec_task.specs.declared.body.Said.{Said}
-use Rattle.exec_machine.specs.{declared.{config.Configuration.Configuration, event.Event.Event, state.Rest.Rest}, Tests.AllTrue, Allowed.allowed, After.{own_after, common_after}, Progress.Plan, World.{Common, Own}}
-use Rattle.exec_moves.specs.{declared.{place.{Place.Place}}, Move.move, State.{Moved, Things, no_wake_poll, wake_poll_of}, Thing.set_wake_poll}
-use Rattle.exec_parts.{specs.{declared.parts.{mail.Reply.Reply, seat.Seat.Seat as Chair, shared.Shared.Shared, worker.Worker.Worker}, Phased.{IsPhased, closes_at, closing_in, stage_of}, Pooled.with_raises, Spots.Spot, View.{Views, Visible, visible, with_view, driver_of, own_of, desk_of, common_of, inbox_at, polls_seen, queue_at, raised_times, seat_seen, seats_seen, things_with, word_at}}, proofs.Facts.{by_number, set_elsewhere, set_there}}
-use Rattle.exec_invariants.{specs.{Raises.TakesRaises, Submitting.must_flush}, proofs.Showing.{map_kept, polls_kept}}
-use Rattle.exec_invariants.{specs.{Holding.box_of, Places.is_armed_at, Sound.{Aims, AreHome, HasQueue, IsSeated, Sound, SoundAt}, Spares.Spares, Works.{Beside, Works, Suits, Steps}}, proofs.{Aside.{SameProfile, beside_calm, queues_set, seats_own}, PoolKept.gates_set, Ringed.{SameIn, sound_ring}, Shown.{own_with, desk_with}, Swept.{RaisesTo, raises_to}}}
-use Rattle.exec_invariants.proofs.HandedOver.{seats_both}
-use Rattle.exec_invariants.proofs.Rousing.{poll_there}
+use Rattle.exec_invariants.{specs.{Raises.TakesRaises, Submitting.must_flush, Holding.box_of, Places.is_armed_at, Sound.{Aims, AreHome, HasQueue, IsSeated, Sound, SoundAt}, Spares.Spares, Works.{Beside, Works, Suits, Steps}}, proofs.{Words.{◌≡◌, ◌≢◌, ℕ, zero, suc, ◌+◌, ◌*◌, ◌≤◌, false, List, [], ◌∷◌, length, map, Option, Some, refl, sym, ap, subst, ◌∙◌, arith, slice_get, slice_set, length-set, get_or_from_slice_get, Driving, ListsRequests, Said, Configuration, Event, Rest, AllTrue, allowed, own_after, common_after, Plan, Common, Own, Place, move, Moved, Things, no_wake_poll, wake_poll_of, set_wake_poll, Reply, Chair, Shared, Worker, IsPhased, closes_at, closing_in, stage_of, with_raises, Spot, Views, Visible, visible, with_view, driver_of, own_of, desk_of, common_of, inbox_at, polls_seen, queue_at, raised_times, seat_seen, seats_seen, things_with, word_at, by_number, set_elsewhere, set_there}, Showing.{map_kept, polls_kept}, Aside.{SameProfile, beside_calm, queues_set, seats_own}, PoolKept.gates_set, Ringed.{SameIn, sound_ring}, Shown.{own_with, desk_with}, Swept.{RaisesTo, raises_to}, HandedOver.seats_both, Rousing.poll_there}}
 
 -- WHAT TWO CHANGES AT ONE PLACE SHOW
 
@@ -63,11 +54,9 @@ module _ {B : Type 0} where
       aims_kept q s.config w.index s.seats.items s'.seats.items many (λ j other. ap (λ xs. slice_get xs j) set ∙ set_elsewhere s.seats.items w.index j chair' other) sound.aims in
       let phased : (c : Chair) → slice_get s'.seats.items w.index ≡ Some c → IsPhased w.index (closes_at q) (closing_in q) w.home.closing w.root w.names.unreleased (stage_of c s) s.tasks.items =
       λ c at. let is : chair' ≡ c = cc (found, at) in subst (λ y. IsPhased w.index (closes_at q) (closing_in q) w.home.closing w.root w.names.unreleased (stage_of y s) s.tasks.items) is (sound.phased chair there) in
-      let homes : AreHome s.config.workers (length s'.seats.items) s.tasks.items = subst (λ n. AreHome s.config.workers n s.tasks.items) (sym many) sound.homes in
       let place : (c : Chair) → slice_get s'.seats.items w.index ≡ Some c → c.mailbox.inbox.closed ≡ false → 2 * c.made + 1 ≤ w.batch.places =
       λ c at. let is : chair' ≡ c = cc (found, at) in subst (λ (y : Chair). y.mailbox.inbox.closed ≡ false → 2 * y.made + 1 ≤ w.batch.places) is (sound.batch_place chair there) in
-      let again : SoundAt q w s1 = assumption (homes, seated, queue, aims, place, phased, sound) in
-      subst (SoundAt q w) (sym shared) again
+      subst (SoundAt q w) (sym shared) (assumption (subst (λ n. AreHome s.config.workers n s.tasks.items) (sym many) sound.homes, seated, queue, aims, place, phased, sound))
 
   -- what others rely on
   spares_first : (i j : ℕ) (s s1 s' : Shared B) (chair : Chair) → j ≢ i → s1 ≡ record s { seats = s1.seats } → slice_get s.seats.items i ≡ Some chair → s1.seats.items ≡ slice_set s.seats.items i (record chair { raised = 0 }) → Spares j s1 s' → Spares j s s'
@@ -90,8 +79,7 @@ module _ {B : Type 0} (q : Place) (w w1 : Worker) (s s1 : Shared B) (sound : Sou
       record { size = to.raises.size; staged = to.raises.staged; flying = to.raises.flying; landed = to.raises.landed; polled = to.polled } in
       let by_ring : SoundAt q w1 s = sound_ring q w w1 s (with_raises sound.seated.seat.raised (driver_of w)).ring sound like driver_is takes.worker in
       let index : w1.index ≡ w.index = ap (λ x. x.index) takes.worker in
-      let there : slice_get s.seats.items w1.index ≡ Some sound.seated.seat = ap (slice_get s.seats.items) index ∙ sound.seated.there in
-      let same : by_ring.seated.seat ≡ sound.seated.seat = cc (by_ring.seated.there, there) in
+      let same : by_ring.seated.seat ≡ sound.seated.seat = cc (by_ring.seated.there, ap (slice_get s.seats.items) index ∙ sound.seated.there) in
       seat_kept q w1 s s1 by_ring by_ring.seated.seat.rest 0 takes.shared
       (takes.seats sound.seated.seat sound.seated.there ∙ ap (λ n. slice_set s.seats.items n (record sound.seated.seat { raised = 0 })) (sym index) ∙ ap (λ (c : Chair). slice_set s.seats.items w1.index (record c { raised = 0 })) (sym same))
 
@@ -143,18 +131,16 @@ module _ {B : Type 0} (q : Place) (w w1 : Worker) (s s1 : Shared B) (sound : Sou
 
   pub suits_taken : (p : Plan) (vs : Views) → Suits p vs w s → Suits p (with_view vs w.index (visible w1)) w1 s1
   suits_taken p vs suits =
-      let index : w1.index ≡ w.index = ap (λ x. x.index) takes.worker in
       let chair' : Chair = record sound.seated.seat { raised = 0 } in
       record {
         config = ap (λ (z : Shared B). z.config) takes.shared ∙ suits.config;
-        seen = ap (slice_get (slice_set vs.workers w.index (visible w1))) index ∙ set_there vs.workers w.index (visible w1) (visible w) suits.seen;
+        seen = ap (slice_get (slice_set vs.workers w.index (visible w1))) (ap (λ x. x.index) takes.worker) ∙ set_there vs.workers w.index (visible w1) (visible w) suits.seen;
         workers = length-set vs.workers w.index (visible w1) ∙ suits.workers ∙ sym (ap length seats_are ∙ length-set s.seats.items w.index chair');
       }
 
   -- and what it leaves of others
   pub beside_first : (w' : Worker) (s' : Shared B) → Beside w1 s1 w' s' → Beside w s w' s'
   beside_first w' s' it =
-      let index : w1.index ≡ w.index = ap (λ x. x.index) takes.worker in
       let chair = sound.seated.seat in
       let there = sound.seated.there in
       let chair' : Chair = record chair { raised = 0 } in
@@ -165,7 +151,7 @@ module _ {B : Type 0} (q : Place) (w w1 : Worker) (s s1 : Shared B) (sound : Sou
       (gates_set w.index s.seats.items s1.seats.items chair chair' seats_are there (record { left = refl; pool = refl; closed = refl; mail = λ h. h }))
       (ap (map (λ (c : Chair). c.queue)) seats_are ∙ queues_set s.seats.items w.index chair chair' there refl) (ap (map box_of) seats_are ∙ map_kept box_of s.seats.items w.index chair' chair there refl) (ap (λ (z : Shared B). z.idle) takes.shared) (ap (λ (z : Shared B). z.global) takes.shared) in
       record {
-        spares = λ j other. spares_first w.index j s s1 s' chair other takes.shared there seats_are (it.spares j (λ is. other (is ∙ index)));
+        spares = λ j other. spares_first w.index j s s1 s' chair other takes.shared there seats_are (it.spares j (λ is. other (is ∙ (ap (λ x. x.index) takes.worker))));
         whole = λ others whole. it.whole others (calm.whole others whole);
       }
 
@@ -185,13 +171,12 @@ module _ {B : Type 0} (q : Place) (w w1 : Worker) (s s1 : Shared B) (sound : Sou
         let vs1 = with_view vs w.index (visible w1) in
         let again : with_view vs1 w1.index (visible w') ≡ with_view vs w.index (visible w') = ap (λ n. with_view vs1 n (visible w')) index ∙ view_twice vs w.index (visible w1) (visible w') in
         let common = common_taken p vs suits.seen in
-        let things = things_taken vs suits.seen in
         let same1 = same_made {T = Moved Things} index own_taken common (λ i o c. move p.config i o c (desk_of w1) (things_with vs1 s1)) in
         let same2 = same_made {T = Own} index own_taken common (λ i o c. own_after p.config o c i e it.choice) in
         let same3 = same_made {T = Common} index own_taken common (λ i o c. common_after p.config o c i e it.choice) in
         record {
           choice = it.choice;
-          moves = grind (arith, same1, desk_taken, things, it.moves, again);
+          moves = grind (arith, same1, desk_taken, things_taken vs suits.seen, it.moves, again);
           may =
               subst (λ i. AllTrue (allowed p.config (own_of w) (common_of left spot p vs s) i e it.choice)) index
               (subst (λ o. AllTrue (allowed p.config o (common_of left spot p vs s) w1.index e it.choice)) own_taken

@@ -1,9 +1,5 @@
 -- Of the kinds of requests: a write and a sync go on alone, and what stands at a gate is one of them.
-use Rattle.std.proofs.{Common.{◌≡◌, false}}
-use Rattle.std.proofs.Common.{arith}
-use Rattle.exec_outcomes.specs.{Accounts.is_durable, declared.outcome.Kind.Kind}
-use Rattle.exec_request.specs.{Requests.{asked_of, goes_on_alone}, declared.{request.Request.Request as Asking}}
-use Rattle.exec_machine.specs.Tests.{is_kept}
+use Rattle.exec_invariants.proofs.Words.{◌≡◌, false, arith, is_durable, Kind, asked_of, goes_on_alone, Asking, is_kept}
 
 pub kept_alone : (q : Asking) → is_kept (asked_of q).kind ≡ goes_on_alone q
 kept_alone = grind arith

@@ -1,7 +1,5 @@
 -- What the machine has of records.
-use Rattle.std.{proofs.{Common.{◌≡◌, ℕ, List, Some, ap, ◌∙◌, map, slice_get, slice_set, slice_index_or}, lemmas.{List.map-set, Option.{get_or_from_slice_get, slice_get-map}}}, specs.Option.option_map}
-use Rattle.exec_machine.specs.World.{no_request}
-use Rattle.exec_parts.specs.{declared.parts.record.Record.Record, Serving.{changed_at, changed_in}}
+use Rattle.exec_invariants.proofs.Words.{◌≡◌, ℕ, List, Some, ap, ◌∙◌, map, slice_get, slice_set, slice_index_or, map-set, get_or_from_slice_get, slice_get-map, option_map, no_request, Record, changed_at, changed_in}
 
 pub request_seen : (rs : List Record) (n : ℕ) (r : Record) → slice_get rs n ≡ Some r → slice_index_or (map (λ x. x.shown) rs) n no_request ≡ r.shown
 request_seen rs n r there = get_or_from_slice_get (map (λ x. x.shown) rs) n r.shown no_request (slice_get-map (λ x. x.shown) rs n ∙ ap (option_map (λ x. x.shown)) there)

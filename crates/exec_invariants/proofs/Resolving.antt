@@ -1,15 +1,5 @@
 -- A request is over: its driver lets go of it, and what its end leaves is told.
-use Rattle.std.proofs.{Common.{◌≡◌, ◌≢◌, ℕ, ◌+◌, ◌^◌, ◌<◌, ◌≤◌, true, List, [], ◌∷◌, ◌++◌, length, Option, Some, None, IsSome, refl, sym, ap, subst, ◌∙◌, arith, is_some}, lemmas.{Bool.false≢true, List.{length-append, length-set}}}
-use Rattle.exec_base.{specs.{Slab.{Slab, IsPast, value_at, written, removed, freed}, declared.{slab.Id.Id}}, proofs.Slots.{past-free, past-write, Changed-set, IsLiveAt-from_value, Updates-free, Updates-write, live_within, was_live}}
-use Rattle.exec_outcomes.specs.Accounts.{Account}
-use Rattle.exec_time.specs.Wheel.{Wheel, removed as unticked}
-use Rattle.exec_request.specs.{Requests.output_of, States.Ended, declared.output.RequestOutput.RequestOutput}
-use Rattle.exec_waiters.{specs.{Events.{finished, finished_for}, States.{is_held_by, waiter_at, pending_count}, Told.{Told, Tells}, declared.{deferred.{Deferred.Deferred}, observer.Observer.{Observer, TheVariants.{DetachedSync, Forwarded, Local, Orphaned}}, waiter.{Entry.{Entry, TheVariants.{Pending, Ready}}, Waiter.Waiter}, waiter_id.WaiterId.WaiterId}}, proofs.Changes.{entry_of, one_if}}
-use Rattle.exec_lists.{specs.Lists.{is_among, without}, proofs.Counting.pending_is}
-use Rattle.exec_driver.{specs.Steps.unscheduled, proofs.Endings.one_finished}
-use Rattle.exec_machine.specs.declared.config.Configuration.{Configuration}
-use Rattle.exec_parts.{specs.{declared.parts.mail.Reply.Reply, Calls.IsTold}}
-use Rattle.exec_invariants.{specs.{Due.IsWheelAt, Names.{HasWidth, held_count}}, proofs.{HeldCounts.{held_removed, held_written}, Orders.{past_removed, past_written}}}
+use Rattle.exec_invariants.{specs.{Due.IsWheelAt, Names.{HasWidth, held_count}}, proofs.{Words.{◌≡◌, ◌≢◌, ℕ, ◌+◌, ◌^◌, ◌<◌, ◌≤◌, true, List, [], ◌∷◌, ◌++◌, length, Option, Some, None, IsSome, refl, sym, ap, subst, ◌∙◌, arith, is_some, false≢true, length-append, length-set, Slab, IsPast, value_at, written, removed, freed, Id, past-free, past-write, Changed-set, IsLiveAt-from_value, Updates-free, Updates-write, live_within, was_live, Account, Wheel, unticked, output_of, Ended, RequestOutput, finished, finished_for, is_held_by, waiter_at, pending_count, Told, Tells, Deferred, Observer, DetachedSync, Forwarded, Local, Orphaned, Entry, Pending, Ready, Waiter, WaiterId, entry_of, one_if, is_among, without, pending_is, unscheduled, one_finished, Configuration, Reply, IsTold}, HeldCounts.{held_removed, held_written}, Orders.{past_removed, past_written}}}
 
 -- THE LISTS
 
@@ -80,10 +70,8 @@ after_by s id it told Orphaned small is at fewer = after_free s id it small at f
 pub slab_after : (s : Slab (Entry Reply Reply)) (id : Id) (it : Waiter Reply Reply) (how : Ended) (account : Option Account) → id.generation < 2 ^ 64 → waiter_at s id ≡ Some it
     → SlabAfter s (finished s id it how account) id it (output_of it.request how account)
 slab_after s id it how account small at =
-    let one = one_finished s id it how account at in
-    let n = one.numbers is_some refl in
     let fewer : pending_count (finished s id it how account) + 1 ≡ pending_count s =
-    ap (λ m. m + 1) (pending_is (finished s id it how account)) ∙ omega (arith, n) ∙ sym (pending_is s) in
+    ap (λ m. m + 1) (pending_is (finished s id it how account)) ∙ omega (arith, (one_finished s id it how account at).numbers is_some refl) ∙ sym (pending_is s) in
     after_by s id it (output_of it.request how account) it.observer small refl at fewer
 
 -- WHAT IS TOLD

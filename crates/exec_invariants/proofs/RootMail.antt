@@ -1,9 +1,5 @@
 -- What tasks hold, where a message to a root joins an inbox: all that is told of requests and sleepers is as it was.
-use Rattle.std.proofs.{Common.{◌≡◌, ℕ, ◌⊎◌, inl, inr, false, Contains, List, [], ◌∷◌, ◌++◌, length, map, Option, Some, None, refl, sym, ap, subst, ◌∙◌, arith, slice_get, slice_set, option_map}, lemmas.{List.{length-set, Elements.Contains-push_cases, Sums.sum_by-append}, Option.slice_get-map}}
-use Rattle.exec_words.specs.declared.inbox.Message.{Message}
-use Rattle.exec_parts.{specs.declared.parts.{mail.Subject.Subject, seat.Seat.Seat as Chair}, proofs.Facts.{by_number, same_Some, set_elsewhere, set_there}}
-use Rattle.exec_invariants.proofs.Showing.{map_set}
-use Rattle.exec_invariants.{specs.Holding.{Box, Hands, HasPlace, Holder, IsAbout, IsClosing, IsHolding, Mail, Nap, Owes, Thing, box_of, same_mail, under_way}, proofs.{HoldRedo.sum_set, Posting.{Arrival, IsArrival, chair_by}, Turning.set_found}}
+use Rattle.exec_invariants.{specs.Holding.{Box, Hands, HasPlace, Holder, IsAbout, IsClosing, IsHolding, Mail, Nap, Owes, Thing, box_of, same_mail, under_way}, proofs.{Words.{◌≡◌, ℕ, ◌⊎◌, inl, inr, false, Contains, List, [], ◌∷◌, ◌++◌, map, Option, Some, None, refl, sym, ap, subst, ◌∙◌, arith, slice_get, slice_set, option_map, length-set, Contains-push_cases, sum_by-append, slice_get-map, Message, Subject, Chair, by_number, same_Some, set_elsewhere, set_there}, Showing.map_set, HoldRedo.sum_set, Posting.{Arrival, IsArrival, chair_by}, Turning.set_found}}
 
 -- such a box
 abbrev with_root : Box → Box
@@ -52,27 +48,21 @@ module _ (h : Hands) (workers : ℕ) (holders : List Holder) (things : List Thin
   room_then : (i : ℕ) (now : Box) → slice_get boxes' i ≡ Some now → IsHolding h workers holders things naps boxes → HasPlace i things naps now
   room_then = grind (arith, was)
 
-  many : length boxes' ≡ length boxes
-  many = length-set boxes j (with_root box)
-
   pub holding_rooted : IsHolding h workers holders things naps boxes → IsHolding h workers holders things naps boxes'
-  holding_rooted = grind (arith, was, shut_was, same_way, owes_then, about_then, room_then, many)
+  holding_rooted = grind (arith, was, shut_was, same_way, owes_then, about_then, room_then, length-set boxes j (with_root box))
 
 -- a message to the root of worker j arrives so
 pub holding_posted : (a : Arrival) (h : Hands) (workers : ℕ) (holders : List Holder) (things : List Thing) (naps : List Nap) (seats seats' : List Chair) (j : ℕ) (chair : Chair) → IsArrival a chair.mailbox → slice_get seats j ≡ Some chair → seats' ≡ slice_set seats j (chair_by a chair)
     → IsHolding h workers holders things naps (map box_of seats) → IsHolding h workers holders things naps (map box_of seats')
 holding_posted a h workers holders things naps seats seats' j chair is there set holding = by a is set
   where
-    found : slice_get (map box_of seats) j ≡ Some (box_of chair)
-    found = slice_get-map box_of seats j ∙ ap (option_map box_of) there
-
     again : slice_set seats j chair ≡ seats
     again = set_found seats j chair there
 
     more : (its : Chair) → seats' ≡ slice_set seats j its → box_of its ≡ with_root (box_of chair) → IsHolding h workers holders things naps (map box_of seats')
     more its set_now now =
         subst (IsHolding h workers holders things naps) (sym (ap (map box_of) set_now ∙ map_set box_of seats j its ∙ ap (slice_set (map box_of seats) j) now))
-        (holding_rooted h workers holders things naps (map box_of seats) j (box_of chair) found holding)
+        (holding_rooted h workers holders things naps (map box_of seats) j (box_of chair) (slice_get-map box_of seats j ∙ ap (option_map box_of) there) holding)
 
     by : (b : Arrival) → IsArrival b chair.mailbox → seats' ≡ slice_set seats j (chair_by b chair) → IsHolding h workers holders things naps (map box_of seats')
     by Arrival.Shut at set_now = subst (λ xs. IsHolding h workers holders things naps (map box_of xs)) (sym (set_now ∙ again)) holding

@@ -1,9 +1,5 @@
 -- What a seat keeps whose wake word was signalled or whose wait was ended, and what is seen of that.
-use Rattle.std.proofs.{Common.{◌≡◌, ℕ, zero, suc, ◌+◌, ◌-◌, ◌^◌, ◌≤◌, ◌⊎◌, inl, inr, Bool, true, false, List, [], ◌∷◌, min, Some, refl, sym, ap, ◌∙◌, arith, slice_get, slice_set, lit≤, if◌then◌else◌}, lemmas.{List.length-set, Option.get_or_from_slice_get}}
-use Rattle.exec_moves.specs.{Claim.raised_if, State.{WakePoll, no_wake_poll, raised, wake_poll_of}, Thing.set_wake_poll}
-use Rattle.exec_parts.{specs.{declared.parts.{seat.Seat.Seat as Chair, shared.Shared.Shared}, Phased.stage_of, Pooled.chair_raised, MailPosts.IsMailbox, View.{Views, Visible, polls_seen, raised_times, things_with}}, proofs.Facts.{by_number, set_elsewhere, set_there}}
-use Rattle.exec_invariants.proofs.Showing.{map_kept}
-use Rattle.exec_invariants.{specs.Sound.IsSeated, proofs.Dedicated.as_long}
+use Rattle.exec_invariants.{specs.Sound.IsSeated, proofs.{Words.{◌≡◌, ℕ, zero, suc, ◌+◌, ◌-◌, ◌^◌, ◌≤◌, ◌⊎◌, inl, inr, Bool, true, false, List, [], ◌∷◌, min, Some, refl, sym, ap, ◌∙◌, arith, slice_get, slice_set, lit≤, if◌then◌else◌, length-set, get_or_from_slice_get, raised_if, WakePoll, no_wake_poll, raised, wake_poll_of, set_wake_poll, Chair, Shared, stage_of, chair_raised, IsMailbox, Views, Visible, polls_seen, raised_times, things_with, by_number, set_elsewhere, set_there}, Showing.map_kept, Dedicated.as_long}}
 
 -- A SEAT THAT KEEPS what its worker goes by
 pub record Keeps (was chair : Chair) : Type 0 where
@@ -55,9 +51,7 @@ raised_many (suc n) p = raised_many n (raised p) ∙ raised_enough p
 raised_to : (n m : ℕ) (p : WakePoll) → (m ≡ suc n) ⊎ ((2 ≤ m) × (2 ≤ n)) → raised_times m p ≡ raised (raised_times n p)
 raised_to n m p (inl is) = ap (λ k. raised_times k p) is ∙ raised_more n p
 raised_to n m p (inr some) =
-    let at_m : raised_times m p ≡ raised (raised p) = at m some.0 in
-    let at_n : raised_times n p ≡ raised (raised p) = at n some.1 in
-    at_m ∙ sym (ap raised at_n ∙ raised_enough p)
+    at m some.0 ∙ sym (ap raised (at n some.1) ∙ raised_enough p)
   where
     at : (k : ℕ) → 2 ≤ k → raised_times k p ≡ raised (raised p)
     at zero less = absurd (omega (arith, less))
@@ -84,13 +78,12 @@ raised_by : (ring : Bool) (n : ℕ) (p : WakePoll) → raised_times (if ring the
 raised_by true n p = raised_to n (min (n + 1) (2 ^ 64 - 1)) p (capped n (2 ^ 64 - 1) (lit≤ tt))
 raised_by false n p = refl
 
-module _ {B : Type 0} where
-  -- a wake is raised for the ring of worker k, and its seat shows that it doesn't rest
-  pub wake_shows : (ring : Bool) (vs : Views) (k : ℕ) (v : Visible) (its : Chair) (s s' : Shared B) → slice_get vs.workers k ≡ Some v → slice_get s.seats.items k ≡ Some its → s' ≡ record s { seats = s'.seats } → s'.seats.items ≡ slice_set s.seats.items k (chair_raised ring its)
-      → things_with vs s' ≡ set_wake_poll k (things_with vs s) (raised_if ring (wake_poll_of (things_with vs s) k))
-  wake_shows ring vs k v its s s' seen there kept set =
-      let its' : Chair = chair_raised ring its in
-      let seats = s.seats.items in
-      let polls : polls_seen vs.workers (slice_set seats k its') ≡ slice_set (polls_seen vs.workers seats) k (raised_if ring (wake_poll_of (things_with vs s) k)) =
-      poll_set vs.workers seats k v its' seen ∙ ap (slice_set (polls_seen vs.workers seats) k) (raised_by ring its.raised v.wakes ∙ ap (raised_if ring) (sym (get_or_from_slice_get (polls_seen vs.workers seats) k (raised_times its.raised v.wakes) no_wake_poll (poll_there vs.workers seats k v its seen there)))) in
-      grind (arith, map_kept)
+-- a wake is raised for the ring of worker k, and its seat shows that it doesn't rest
+pub wake_shows : {B : Type 0} (ring : Bool) (vs : Views) (k : ℕ) (v : Visible) (its : Chair) (s s' : Shared B) → slice_get vs.workers k ≡ Some v → slice_get s.seats.items k ≡ Some its → s' ≡ record s { seats = s'.seats } → s'.seats.items ≡ slice_set s.seats.items k (chair_raised ring its)
+    → things_with vs s' ≡ set_wake_poll k (things_with vs s) (raised_if ring (wake_poll_of (things_with vs s) k))
+wake_shows ring vs k v its s s' seen there kept set =
+    let its' : Chair = chair_raised ring its in
+    let seats = s.seats.items in
+    let polls : polls_seen vs.workers (slice_set seats k its') ≡ slice_set (polls_seen vs.workers seats) k (raised_if ring (wake_poll_of (things_with vs s) k)) =
+    poll_set vs.workers seats k v its' seen ∙ ap (slice_set (polls_seen vs.workers seats) k) (raised_by ring its.raised v.wakes ∙ ap (raised_if ring) (sym (get_or_from_slice_get (polls_seen vs.workers seats) k (raised_times its.raised v.wakes) no_wake_poll (poll_there vs.workers seats k v its seen there)))) in
+    grind (arith, map_kept)

@@ -1,10 +1,5 @@
 -- What the machine sees of seats.
-use Rattle.std.{proofs.{Common.{◌≡◌, ℕ, zero, suc, Bool, true, List, [], ◌∷◌, Some, Option, refl, ap, slice_get, slice_set}, lemmas.Option.get_or_from_slice_get}, specs.List.list_all}
-use Rattle.std.proofs.Common.{arith}
-use Rattle.exec_task.specs.declared.body.Said.{Said}
-use Rattle.exec_machine.specs.{Progress.Plan, World.{Seat, seat_of, no_seat}}
-use Rattle.exec_parts.specs.{declared.parts.{seat.Seat.Seat as Chair, shared.Shared.Shared, worker.Worker.Worker}, Spots.Spot, View.{Views, Visible, visible, common_of, seats_seen, seat_seen}}
-use Rattle.exec_invariants.specs.Works.{Suits}
+use Rattle.exec_invariants.{specs.Works.Suits, proofs.Words.{◌≡◌, ℕ, zero, suc, Bool, true, List, [], ◌∷◌, Some, Option, refl, ap, slice_get, slice_set, get_or_from_slice_get, list_all, arith, Said, Plan, Seat, seat_of, no_seat, Chair, Shared, Worker, Spot, Views, Visible, visible, common_of, seats_seen, seat_seen}}
 
 -- what is seen of one chair
 pub seat_there : (vs : List Visible) (seats : List Chair) (i : ℕ) (v : Visible) (chair : Chair) → slice_get vs i ≡ Some v → slice_get seats i ≡ Some chair
@@ -28,8 +23,7 @@ seats_all f [] seats h = refl
 seats_all f (v ∷ vs) [] h = refl
 seats_all f (v ∷ vs) (seat ∷ seats) h = rw (h 0 v seat refl) (seats_all f vs seats (λ k x chair there. h (suc k) x chair there))
 
-module _ {B L : Type 0} (left : B → L) (spot : L → Option Said → Spot) where
-  pub own_seat : (p : Plan) (vs : Views) (w : Worker) (s : Shared B) (chair : Chair) → Suits p vs w s → slice_get s.seats.items w.index ≡ Some chair
-      → seat_of (common_of left spot p vs s) w.index ≡ seat_seen (visible w) chair
-  own_seat p vs w s chair suits there =
-      get_or_from_slice_get (seats_seen vs.workers s.seats.items) w.index (seat_seen (visible w) chair) no_seat (seat_there vs.workers s.seats.items w.index (visible w) chair suits.seen there)
+pub own_seat : {B L : Type 0} (left : B → L) (spot : L → Option Said → Spot) (p : Plan) (vs : Views) (w : Worker) (s : Shared B) (chair : Chair) → Suits p vs w s → slice_get s.seats.items w.index ≡ Some chair
+    → seat_of (common_of left spot p vs s) w.index ≡ seat_seen (visible w) chair
+own_seat left spot p vs w s chair suits there =
+    get_or_from_slice_get (seats_seen vs.workers s.seats.items) w.index (seat_seen (visible w) chair) no_seat (seat_there vs.workers s.seats.items w.index (visible w) chair suits.seen there)

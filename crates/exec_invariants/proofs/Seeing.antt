@@ -1,12 +1,5 @@
 -- What is seen of a worker after a step of a service, by its driver.
-use Rattle.std.proofs.{Common.{◌≡◌, ℕ, zero, suc, List, [], ◌∷◌, map, Option, Some, refl, sym, ap, subst, slice_get, slice_set}, lemmas.List.set-get_or}
-use Rattle.std.proofs.Common.{arith}
-use Rattle.exec_driver.specs.Driving.{Driving}
-use Rattle.exec_task.specs.declared.body.Said.{Said}
-use Rattle.exec_machine.specs.{declared.event.Event.Event, Allowed.allowed, After.{own_after, common_after}, Choice.Choice.Plain, Progress.Plan, Tests.AllTrue, World.Common}
-use Rattle.exec_moves.specs.{declared.place.Place.Place, Move.move_at, State.{Things, no_wake_poll}, Thing.{ring_of, set_ring}}
-use Rattle.exec_parts.specs.{declared.parts.{mail.Reply.Reply, record.Record.Record, seat.Seat.Seat as Chair, shared.Shared.Shared, worker.Worker.Worker}, Serving.changed_at, Spots.Spot, View.{Views, Visible, visible, with_view, own_of, desk_of, driver_of, common_of, polls_seen, raised_times, seat_seen, things_with}}
-use Rattle.exec_invariants.{specs.{Sound.SoundAt, Works.{Works, Suits, Steps}}, proofs.{Hearing.unheard, Recorded.shown_changed, Keys.{name_in, same_opens, names_changed}, Lined.{gates_seen_same, passing_same, was_sent}, Raising.views_kept, Serving.{Balances, SparesGates, SparesRecords, beside_service_by, sound_again_by, spares_gates}, ServingHolds.{OthersKept, Serves, Keeps, nap_sent}, Shown.{makes, own_with, desk_with, visible_with}}}
+use Rattle.exec_invariants.{specs.{Sound.SoundAt, Works.{Works, Suits, Steps}}, proofs.{Words.{◌≡◌, ℕ, zero, suc, List, [], ◌∷◌, map, Option, Some, refl, sym, ap, subst, slice_get, slice_set, set-get_or, arith, Driving, Said, Event, allowed, own_after, common_after, Plain, Plan, AllTrue, Common, Place, move_at, Things, no_wake_poll, ring_of, set_ring, Reply, Record, Chair, Shared, Worker, changed_at, Spot, Views, Visible, visible, with_view, own_of, desk_of, driver_of, common_of, polls_seen, raised_times, seat_seen, things_with}, Hearing.unheard, Recorded.shown_changed, Keys.{name_in, same_opens, names_changed}, Lined.{gates_seen_same, passing_same, was_sent}, Raising.views_kept, Serving.{Balances, SparesGates, SparesRecords, beside_service_by, sound_again_by, spares_gates}, ServingHolds.{OthersKept, Serves, Keeps, nap_sent}, Shown.{makes, own_with, desk_with, visible_with}}}
 pub use Rattle.exec_invariants.proofs.Shown.{makes, own_with, desk_with, visible_with}
 
 pub record Shows (w w' : Worker) (d : Driving Reply Reply) : Type 0 where

@@ -1,7 +1,5 @@
 -- What the machine sees of one request and of one sleeper.
-use Rattle.std.{proofs.{Common.{◌≡◌, ℕ, List, map, Some, ap, ◌∙◌, slice_get, slice_index_or}, lemmas.Option.{get_or_from_slice_get, slice_get-map}}, specs.Option.option_map}
-use Rattle.exec_machine.specs.World.{no_request, no_sleeper}
-use Rattle.exec_parts.specs.declared.parts.{record.Record.Record, sleeping.SleeperRecord.SleeperRecord}
+use Rattle.exec_invariants.proofs.Words.{◌≡◌, ℕ, List, map, Some, ap, ◌∙◌, slice_get, slice_index_or, get_or_from_slice_get, slice_get-map, option_map, no_request, no_sleeper, Record, SleeperRecord}
 
 pub request_at : (rs : List Record) (n : ℕ) (r : Record) → slice_get rs n ≡ Some r → slice_index_or (map (λ x. x.shown) rs) n no_request ≡ r.shown
 request_at rs n r there = get_or_from_slice_get (map (λ x. x.shown) rs) n r.shown no_request (slice_get-map (λ x. x.shown) rs n ∙ ap (option_map (λ x. x.shown)) there)

@@ -1,15 +1,5 @@
 -- What is sent elsewhere, and what tasks hold, once a request is over within a service.
-use Rattle.std.proofs.{Common.{◌≡◌, ◌≢◌, ℕ, zero, suc, ◌+◌, ◌≤◌, ◌&&◌, ◌||◌, not, cond, Bool, true, false, Contains, List, [], ◌∷◌, ◌++◌, count_by, length, Option, Some, None, IsSome, Result, Ok, Err, refl, sym, ap, subst, ◌∙◌, arith, inl, inr, slice_get}, lemmas.{Bool.{false≢true, eq-eqb}, List.{append-nil, Elements.Contains-append_cases}}}
-use Rattle.exec_base.specs.{Slab.{Slab, value_at}, declared.{error.Error.Error, slab.Id.Id}}
-use Rattle.exec_outcomes.specs.{Accounts.Account, declared.outcome.Outcome.Outcome}
-use Rattle.exec_time.specs.declared.{notes.ForwardedResult.ForwardedResult, timers.Sleeper.Sleeper as Sleeping}
-use Rattle.exec_request.specs.{Requests.{output_of}, States.Ended, declared.output.RequestOutput.RequestOutput}
-use Rattle.exec_waiters.{specs.{Events.{told_by_finish, waker_in}, States.{is_held_by, waiter_at, waiter_of}, Told.{Tells, Told, tasks_of}, declared.{deferred.{Answer.Answer, Deferred.Deferred}, observer.Observer.{Observer, TheVariants.{DetachedSync, Forwarded, Local, Orphaned}}, waiter.{Entry.{Entry, TheVariants.{Ready}}, Waiter.Waiter}}}, proofs.Changes.entry_of}
-use Rattle.exec_driver.specs.Driving.{Driving}
-use Rattle.exec_machine.specs.{declared.state.{Forwarding.Forwarding, RequestPhase.{RequestPhase, TheVariants.Resolved}}, Tests.{is_applied, is_resolved}}
-use Rattle.exec_parts.{specs.{declared.parts.{mail.Reply.Reply, names.Names.Names, record.Record.Record, sleeping.SleeperRecord.SleeperRecord}, Records.{number_in, outcome_in}, Serving.changed_at}, proofs.Facts.{by_name, by_number, not_same, same_Some}}
-use Rattle.exec_invariants.{specs.{Due.AreTimed, Holding.{IsAnswerOf, thing_of}, Places.one_if, Rooted.{IsKept, IsNear, IsReplyFor, IsResult, IsRooted, Pays, StandsAt, Watches, goes_elsewhere, is_of_request, is_of_timer, outcome_told, results_of}, Names.{IsAlike, IsNamed}}, proofs.{Marking.{mark_if, marked}, Over.{OneEnds, apart_number, gone_here, is_over, other_record, unresolved_before}, Resolving.{EntryAfter, ToldOnce}}}
-use Rattle.exec_invariants.proofs.Lined.{tallied, tally}
+use Rattle.exec_invariants.{specs.{Due.AreTimed, Holding.{IsAnswerOf, thing_of}, Places.one_if, Rooted.{IsKept, IsNear, IsReplyFor, IsResult, IsRooted, Pays, StandsAt, Watches, goes_elsewhere, is_of_request, is_of_timer, outcome_told, results_of}, Names.{IsAlike, IsNamed}}, proofs.{Words.{◌≡◌, ◌≢◌, ℕ, zero, suc, ◌+◌, ◌≤◌, ◌&&◌, ◌||◌, not, cond, Bool, true, false, Contains, List, [], ◌∷◌, ◌++◌, count_by, length, Option, Some, None, IsSome, Result, Ok, Err, refl, sym, ap, subst, ◌∙◌, arith, inl, inr, slice_get, false≢true, eq-eqb, append-nil, Contains-append_cases, Slab, value_at, Error, Id, Account, Outcome, ForwardedResult, Sleeping, output_of, Ended, RequestOutput, told_by_finish, waker_in, is_held_by, waiter_at, waiter_of, Tells, Told, tasks_told as tasks_of, Answer, Deferred, Observer, DetachedSync, Forwarded, Local, Orphaned, Entry, Ready, Waiter, entry_of, Driving, Forwarding, RequestPhase, Resolved, is_applied, is_resolved, Reply, Names, Record, SleeperRecord, number_in, outcome_in, changed_at, by_name, by_number, not_same, same_Some}, Marking.{mark_if, marked}, Over.{OneEnds, apart_number, gone_here, is_over, other_record, unresolved_before}, Resolving.{EntryAfter, ToldOnce}, Lined.{tallied, tally}}}
 
 -- WHAT IS TOLD of its end, by who waits for it
 
@@ -94,9 +84,6 @@ module _ (i : ℕ) (n n' : Names) (d d' : Driving Reply Reply) (zs : Slab (Sleep
   completions_then : left'.notes.completions.items ≡ left.notes.completions.items
   completions_then = adds.notes.completions_added ∙ ap (λ xs. left.notes.completions.items ++ xs) tells.completions ∙ append-nil left.notes.completions.items
 
-  goes_then : goes_elsewhere (f r) ≡ is_applied r.shown.forwarding
-  goes_then = grind arith
-
   outcome_open : (p : RequestPhase) → is_resolved p ≡ false → outcome_in p ≡ None
   outcome_open (Resolved x) h = absurd (false≢true (sym h))
   outcome_open _ h = refl
@@ -121,18 +108,13 @@ module _ (i : ℕ) (n n' : Names) (d d' : Driving Reply Reply) (zs : Slab (Sleep
       by_record j x there
       (λ is at same.
       let was = rooted.sent j r at mine in
-      let more = sent_here it.observer refl in
       let now = results_at k in
       let all : results_of k left' + one_if r.sent ≡ one_if (is_applied r.shown.forwarding) =
-      let before : results_of k left + one_if r.sent ≡ one_if (goes_elsewhere r) = ap (λ m. results_of m left + one_if r.sent) is ∙ was in
-      omega (arith, now, before, more) in
+      omega (arith, now, ap (λ m. results_of m left + one_if r.sent) is ∙ was, sent_here it.observer refl) in
       ap (λ (y : Record). results_of j left' + one_if y.sent) (sym same) ∙ ap (λ (y : Record). results_of j left' + one_if y.sent) one.ends.same
-      ∙ ap (λ m. results_of m left' + one_if r.sent) (sym is) ∙ all ∙ ap one_if (sym goes_then) ∙ ap (λ (y : Record). one_if (goes_elsewhere y)) same)
+      ∙ ap (λ m. results_of m left' + one_if r.sent) (sym is) ∙ all ∙ ap one_if (sym (grind arith)) ∙ ap (λ (y : Record). one_if (goes_elsewhere y)) same)
       (λ apart at.
-      let was = rooted.sent j x at of_i in
-      let none = sent_other j it.observer refl apart in
-      let now = results_at j in
-      omega (arith, now, none, was))
+      omega (arith, results_at j, sent_other j it.observer refl apart, rooted.sent j x at of_i))
 
   -- each answer is of a request of the worker
   answer_old : (a : Answer Reply) → IsResult i a rs → IsResult i a rs_then
@@ -169,11 +151,10 @@ module _ (i : ℕ) (n n' : Names) (d d' : Driving Reply Reply) (zs : Slab (Sleep
   answer_new Orphaned is a among = absurd (none_in a among)
   answer_new (Forwarded reply) is a among =
       let made : Answer Reply = record { id = record { 0 = id }; sender = reply; result = Ok told } in
-      let same : made ≡ a = only_one made a among in
       let for = rooted.replies id it reply r one.at is one.there in
       let held : is_held_by it.observer ≡ true = ap is_held_by is in
       let unpaid = (rooted.pays k r one.there mine).unpaid unresolved (sym held_is ∙ held) in
-      subst (λ (x : Answer Reply). IsResult i x rs_then) same (record {
+      subst (λ (x : Answer Reply). IsResult i x rs_then) (only_one made a among) (record {
         k = k;
         r = f r;
         there = now_there;

@@ -1,12 +1,5 @@
 -- Steps of a service: what they keep.
-use Rattle.std.proofs.{Common.{◌≡◌, ◌≢◌, ℕ, ◌+◌, ◌<◌, ◌==◌, Bool, true, false, Contains, List, [], map, Option, Some, None, ◌⊎◌, if◌then◌else◌, refl, sym, ap, subst, ◌∙◌, arith, slice_get, slice_set, option_to_list}, lemmas.Bool.false≢true}
-use Rattle.exec_driver.specs.Driving.{seen}
-use Rattle.exec_task.specs.{TaskSet.Set, declared.runnable.Runnable.Runnable}
-use Rattle.exec_machine.specs.Tests.{is_at_large}
-use Rattle.exec_moves.specs.{declared.place.Place.Place, Seen.polls_at}
-use Rattle.exec_parts.{specs.{Calls.IsTold, declared.parts.{mail.Subject.Subject, record.Record.Record, sleeping.SleeperRecord.SleeperRecord, seat.Seat.Seat as Chair, shared.Shared.Shared, task_slot.TaskSlot.TaskSlot, worker.Worker.Worker}, Phased.{IsPhased, closes_at, closing_in, stage_of}, Roles.is_pool, Serving.changed_at, View.{letters_in, own_of}}, proofs.Facts.{by_number, not_same, set_elsewhere, set_there}}
-use Rattle.exec_invariants.proofs.Showing.{map_kept}
-use Rattle.exec_invariants.{specs.{Sound.{HasBatch, HasGuest, HasLetters, HasQueue, HasRunnable, IsHeld, IsInHand, IsLeft, IsLetter, IsLoot, IsMineIn, IsMyMail, IsSearching, IsSeated, IsTied, LetsGoAt, SoundAt, Stops, Serves as ServesTask, root_in_hand}, Names.tellers, Carried.HasRoom, Drained.{Duties, IsBefore, IsOver, IsPool, in_set}, Gates.{AreLinedUp, HaveGates, has_hint_at}, Holding.{Hands, IsHolding, Mail, holder_of, nap_of, thing_of, box_of}, HoldPlaces.{cancels_at, heard_at, sends_cancel_at, spare_at}, Places.{Drops, begins_at, passes_at, calls_back_at, claims_at, clears_at, drops_at, hands_on_at, has_count_at, is_armed_at, is_number, is_pooled_at, is_published_at, joins_at, one_if, or_polls, polled_in, removes_at, searches_at, step_of_poll, task_at}, Rooted.HearsNext, Spares.{RecordsEndure, SleeperEndures, SleepersEndure, Spares, SparedRecords, SparesSleepers, SparedSleepers, SparesRecord}, Whole.{IsWhole, Profile, duties_of, hands_of, wakes_with, with_worker}, Works.Beside}, proofs.{Aside.{spares_none}, Lined.{KeepsLines, SameAtGate, SameLines, gates_kept, gates_opens, lined_kept, lined_opens, lines_changed, lines_same, now, opens_same}, Marking.{mark_if, marked, was_marked}, SparedRecord.{sleeper_spared, spared_same}, Spared.sleepers_endure, ServingPlaces.{is_calm, IsCalm, calm}, ServingHolds.{OthersKept, Serves, Keeps, nap_sent}}}
+use Rattle.exec_invariants.{specs.{Sound.{HasBatch, HasGuest, HasLetters, HasQueue, HasRunnable, IsHeld, IsInHand, IsLeft, IsLetter, IsLoot, IsMineIn, IsMyMail, IsSearching, IsSeated, IsTied, LetsGoAt, SoundAt, Stops, Serves as ServesTask, root_in_hand}, Names.tellers, Carried.HasRoom, Drained.{Duties, IsBefore, IsOver, IsPool, in_set}, Gates.{AreLinedUp, HaveGates, has_hint_at}, Holding.{Hands, IsHolding, Mail, holder_of, nap_of, thing_of, box_of}, HoldPlaces.{cancels_at, heard_at, sends_cancel_at, spare_at}, Places.{Drops, begins_at, passes_at, calls_back_at, claims_at, clears_at, drops_at, hands_on_at, has_count_at, is_armed_at, is_number, is_pooled_at, is_published_at, joins_at, one_if, or_polls, polled_in, removes_at, searches_at, step_of_poll, task_at}, Rooted.HearsNext, Spares.{RecordsEndure, SleeperEndures, SleepersEndure, Spares, SparedRecords, SparesSleepers, SparedSleepers, SparesRecord}, Whole.{IsWhole, Profile, duties_of, hands_of, wakes_with, with_worker}, Works.Beside}, proofs.{Words.{◌≡◌, ◌≢◌, ℕ, ◌+◌, ◌<◌, ◌==◌, Bool, true, false, Contains, List, [], map, Option, Some, None, ◌⊎◌, if◌then◌else◌, refl, sym, ap, subst, ◌∙◌, arith, slice_get, slice_set, option_to_list, false≢true, seen, Set, Runnable, is_at_large, Place, polls_at, IsTold, Subject, Record, SleeperRecord, Chair, Shared, TaskSlot, Worker, IsPhased, closes_at, closing_in, stage_of, is_pool, changed_at, letters_in, own_of, not_same, set_elsewhere, set_there}, Showing.map_kept, Aside.spares_none, Lined.{KeepsLines, SameAtGate, SameLines, gates_kept, gates_opens, lined_kept, lined_opens, lines_changed, lines_same, now, opens_same}, Marking.{mark_if, marked, was_marked}, SparedRecord.{sleeper_spared, spared_same}, Spared.sleepers_endure, ServingPlaces.{is_calm, IsCalm, calm}, ServingHolds.{OthersKept, Serves, Keeps, nap_sent}, HoldRedo.set_on}}
 
 module _ {B : Type 0} where
   -- it owes nobody anything there
@@ -109,12 +102,10 @@ module _ {B : Type 0} where
   sound_again_by q w w' s s' sound serves spares keeps =
       let w1 : Worker = record w { place = w'.place; home = record w.home { driver = w'.home.driver; timers = w'.home.timers; deferred = w'.home.deferred }; names = record w.names { ended = w'.names.ended; staged = w'.names.staged; untold = w'.names.untold }; put_off = w'.put_off } in
       let s1 : Shared B = record s { requests = s'.requests; sleepers = s'.sleepers; opens = s'.opens } in
-      let by_worker : Keeps w1 s' = subst (λ x. Keeps x s') serves.worker keeps in
-      let by_shared : Keeps w1 s1 = subst (λ y. Keeps w1 y) serves.shared by_worker in
+      let by_shared : Keeps w1 s1 = subst (λ y. Keeps w1 y) serves.shared (subst (λ x. Keeps x s') serves.worker keeps) in
       let spares1 : SparesGates w.index s s1 = subst (λ y. SparesGates w.index s y) serves.shared spares in
       let again : SoundAt w'.place w1 s1 = sound_parts q w w' s s' sound (calm q serves.from) (calm w'.place serves.to) serves.armed serves.closes serves.searches (serves.batch sound.batch) spares1 by_shared in
-      let there : SoundAt w'.place w' s1 = subst (λ x. SoundAt w'.place x s1) (sym serves.worker) again in
-      subst (λ y. SoundAt w'.place w' y) (sym serves.shared) there
+      subst (λ y. SoundAt w'.place w' y) (sym serves.shared) (subst (λ x. SoundAt w'.place x s1) (sym serves.worker) again)
 
   pub sound_again : (q : Place) (w w' : Worker) (s s' : Shared B) → SoundAt q w s → Serves q w w' s s' → SparesRecords w.index s s' → Keeps w' s' → SoundAt w'.place w' s'
   sound_again q w w' s s' sound serves spares keeps = sound_again_by q w w' s s' sound serves (spares_gates w.index s s' spares) keeps
@@ -139,8 +130,7 @@ module _ {B : Type 0} where
       let records_only : (k : ℕ) (r : Record) → slice_get s'.requests.items k ≡ Some r → r.shown.worker ≢ i → slice_get s.requests.items k ≡ Some r = λ j x at other.
       let old = was_marked f rs k j x (ap (λ xs. slice_get xs j) (sym records) ∙ at) in
       let before : old.0.shown.worker ≢ i = λ is. other (ap (λ y. y.shown.worker) old.2 ∙ worker_same (k == j) old.0 ∙ is) in
-      let is : x ≡ old.0 = old.2 ∙ ap (λ b. mark_if f b old.0) (apart j old.0 old.1 before) in
-      old.1 ∙ ap (λ y. Some y) (sym is) in
+      old.1 ∙ ap (λ y. Some y) (sym (old.2 ∙ ap (λ b. mark_if f b old.0) (apart j old.0 old.1 before))) in
       let sleepers_so : (k : ℕ) (z : SleeperRecord) → slice_get s.sleepers.items k ≡ Some z → z.shown.worker ≢ i → slice_get s'.sleepers.items k ≡ Some z = λ j z at other. ap (λ zs. slice_get zs j) sleepers ∙ at in
       let sleepers_only : (k : ℕ) (z : SleeperRecord) → slice_get s'.sleepers.items k ≡ Some z → z.shown.worker ≢ i → slice_get s.sleepers.items k ≡ Some z = λ j z at other. ap (λ zs. slice_get zs j) (sym sleepers) ∙ at in
       let lines = subst (KeepsLines rs) (sym records) (lines_changed rs k r f there same) in
@@ -165,12 +155,7 @@ module _ {B : Type 0} where
       let found : slice_get (slice_set ss k z') j ≡ Some x = ap (λ zs. slice_get zs j) (sym sleepers) ∙ at in
       let apart : j ≢ k = λ same. other (let is : x ≡ z' = cc (found, ap (slice_get (slice_set ss k z')) same, now_there) in ap (λ y. y.shown.worker) is ∙ keeps.worker ∙ mine) in
       sym (set_elsewhere ss k j z' apart) ∙ found in
-      let naps : SleepersEndure s.sleepers.items s'.sleepers.items = λ j x at.
-      by_number j k
-      (λ apart. (x, ap (λ zs. slice_get zs j) sleepers ∙ set_elsewhere ss k j z' apart ∙ at, record { worker = refl; forwarded = λ h. h }))
-      (λ same.
-      let is : z ≡ x = cc (there, at, ap (slice_get ss) same) in
-      (z', ap (λ zs. slice_get zs j) sleepers ∙ ap (slice_get (slice_set ss k z')) same ∙ now_there, subst (λ y. SleeperEndures y z') is keeps)) in
+      let naps : SleepersEndure s.sleepers.items s'.sleepers.items = set_on (λ n. SleeperEndures) ss s'.sleepers.items k z z' there sleepers keeps (λ n x. record { worker = refl; forwarded = λ h. h }) in
       let sent_so = ap (map nap_sent) sleepers ∙ map_kept nap_sent ss k z' z there sent in
       assumption (records, records_only, sleepers_so, sleepers_only, lines_same s.requests.items s'.requests.items requests, naps, opens_same s.opens s'.opens s.requests.items lined opens, sent_so)
 
@@ -206,8 +191,7 @@ module _ {B : Type 0} where
       (it.0, it.1, clears it.0 ∙ it.2, it.3) in
       let gone : (j t : ℕ) → (d'.drops_by j).removes ≡ Some t → IsOver t tasks × ((set.closed ≡ true) ⊎ (in_set t set ≡ 1)) = λ j t is. pool.removes j t (sym (removes j) ∙ is) in
       let alone : (i j t : ℕ) → (d'.drops_by i).removes ≡ Some t → (d'.drops_by j).removes ≡ Some t → i ≡ j = λ i j t a b. pool.alone i j t (sym (removes i) ∙ a) (sym (removes j) ∙ b) in
-      let done : IsPool d1 tasks set seats = assumption (who, gone, alone, pool) in
-      subst (λ x. IsPool x tasks set seats) (sym same) done
+      subst (λ x. IsPool x tasks set seats) (sym same) (assumption (who, gone, alone, pool))
 
   whole_service : (q : Place) (w w' : Worker) (s s' : Shared B) (others : Profile) → w.place ≡ q → Serves q w w' s s' → Balances w w' s s' → IsWhole (with_worker others w) s → IsWhole (with_worker others w') s'
   whole_service q w w' s s' others here serves balances whole =
@@ -216,12 +200,10 @@ module _ {B : Type 0} where
       let x = with_worker others w in
       let x' = with_worker others w' in
       let index : w'.index ≡ w.index = ap (λ (z : Worker). z.index) serves.worker in
-      let polls : polls_at w'.place ≡ polls_at w.place = to.polls ∙ sym (ap polls_at here ∙ from.polls) in
       let claims : claims_at w'.place ≡ claims_at w.place = to.claims ∙ sym (ap claims_at here ∙ from.claims) in
       let counts : has_count_at w'.place ≡ has_count_at w.place = to.counts ∙ sym (ap has_count_at here ∙ from.counts) in
       let published : is_published_at w'.place ≡ is_published_at w.place = serves.published ∙ ap is_published_at (sym here) in
       let clears : clears_at w'.place ≡ clears_at w.place = to.clears ∙ sym (ap clears_at here ∙ from.clears) in
-      let removes : removes_at w'.place ≡ removes_at w.place = to.removes ∙ sym (ap removes_at here ∙ from.removes) in
       let v : Worker = record w { place = w'.place; home = record w.home { driver = w'.home.driver; timers = w'.home.timers; deferred = w'.home.deferred }; names = record w.names { ended = w'.names.ended; staged = w'.names.staged; untold = w'.names.untold }; put_off = w'.put_off } in
       let y = with_worker others v in
       let make : Option ℕ → Option ℕ → Bool → Bool → Option ℕ → Profile = λ ps cs count shown cl.
@@ -235,7 +217,7 @@ module _ {B : Type 0} where
         drops_by = y.drops_by;
         wakes = y.wakes;
       } in
-      let made : y ≡ record x { drops_by = y.drops_by; wakes = y.wakes } = grind (arith, polls, claims, counts, published, clears) in
+      let made : y ≡ record x { drops_by = y.drops_by; wakes = y.wakes } = grind (arith, to.polls ∙ sym (ap polls_at here ∙ from.polls), claims, counts, published, clears) in
       let shape : x' ≡ record x { drops_by = x'.drops_by; wakes = x'.wakes } =
       subst (λ (z : Worker). with_worker others z ≡ record x { drops_by = (with_worker others z).drops_by; wakes = (with_worker others z).wakes }) (sym serves.worker) made in
       let chosen : (j : ℕ) (b : Bool) (u v y : Drops) → u.removes ≡ v.removes → u.clears ≡ v.clears → ((if b then u else y).removes ≡ (if b then v else y).removes) × ((if b then u else y).clears ≡ (if b then v else y).clears) = λ j b.
@@ -244,17 +226,15 @@ module _ {B : Type 0} where
         | false ↦ λ u v y a c. (refl, refl)
       ] in
       let either : (j : ℕ) → ((x'.drops_by j).removes ≡ (x.drops_by j).removes) × ((x'.drops_by j).clears ≡ (x.drops_by j).clears) = λ j.
-      rw index (chosen j (j == w.index) (drops_at w'.place) (drops_at w.place) (others.drops_by j) removes clears) in
+      rw index (chosen j (j == w.index) (drops_at w'.place) (drops_at w.place) (others.drops_by j) (to.removes ∙ sym (ap removes_at here ∙ from.removes)) clears) in
       let pool : IsPool (record (duties_of x) { drops_by = x'.drops_by }) s.tasks.items s.set s.seats.items =
       pool_drops (duties_of x) (record (duties_of x) { drops_by = x'.drops_by }) s.tasks.items s.set s.seats.items refl (λ j. (either j).0) (λ j. (either j).1) whole.pool in
       let x1 : Profile = record x { drops_by = x'.drops_by; wakes = x'.wakes } in
       let s1 : Shared B = record s { requests = s'.requests; sleepers = s'.sleepers; opens = s'.opens } in
-      let gates : HaveGates x'.drops_by s'.opens s'.requests.items = balances.gates others whole in
       let hands : hands_of x' ≡ hands_of x1 = ap hands_of shape in
       let holding : IsHolding (hands_of x1) s.config.workers (map holder_of s.tasks.items) (map thing_of s'.requests.items) (map nap_of s'.sleepers.items) (map box_of s.seats.items) =
       subst (λ h. IsHolding h s.config.workers (map holder_of s.tasks.items) (map thing_of s'.requests.items) (map nap_of s'.sleepers.items) (map box_of s.seats.items)) hands (balances.holding others whole) in
-      let done : IsWhole x1 s1 = assumption (pool, gates, holding, whole) in
-      subst (λ y. IsWhole x' y) (sym serves.shared) (subst (λ y. IsWhole y s1) (sym shape) done)
+      subst (λ y. IsWhole x' y) (sym serves.shared) (subst (λ y. IsWhole y s1) (sym shape) (assumption (pool, balances.gates others whole, holding, whole)))
 
   -- where the balances are as they were
   -- who stands at gates does so still

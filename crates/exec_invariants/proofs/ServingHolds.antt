@@ -1,13 +1,5 @@
 -- What holds again of a worker after a step of its service.
-use Rattle.std.proofs.Common.{◌≡◌, ℕ, ◌+◌, Bool, true, false, List, [], arith}
-use Rattle.exec_base.specs.Slab.{Slab, live_count}
-use Rattle.exec_time.specs.declared.timers.Sleeper.{Sleeper as Sleeping}
-use Rattle.exec_waiters.specs.States.{pending_count}
-use Rattle.exec_driver.specs.Driving.{Driving}
-use Rattle.exec_machine.specs.Ranges.{ring_size}
-use Rattle.exec_moves.specs.{declared.place.Place.Place, Seen.serves_at}
-use Rattle.exec_parts.specs.{Calls.IsTold, declared.parts.{mail.Reply.Reply, record.Record.Record, sleeping.SleeperRecord.SleeperRecord, shared.Shared.Shared, worker.{Worker.Worker, Moments.Moments}}, Phased.closes_at, View.driver_of}
-use Rattle.exec_invariants.{specs.{Sound.{AreOver, HasBatch, served_in}, Names.{HasWidth, IsNamed, tellers}, Carried.IsCarried, Due.{IsDue, wheel_moment}, Flown.HasFlown, Gates.IsKnown, Holding.Mail, HoldPlaces.{has_wakes_at, is_bare_at}, Places.{is_armed_at, is_published_at, searches_at}, Rooted.IsRooted}, proofs.ServingPlaces.is_calm}
+use Rattle.exec_invariants.{specs.{Sound.{AreOver, HasBatch, served_in}, Names.{HasWidth, IsNamed, tellers}, Carried.IsCarried, Due.{IsDue, wheel_moment}, Flown.HasFlown, Gates.IsKnown, Holding.Mail, HoldPlaces.{has_wakes_at, is_bare_at}, Places.{is_armed_at, is_published_at, searches_at}, Rooted.IsRooted}, proofs.{Words.{◌≡◌, ℕ, ◌+◌, Bool, true, false, List, [], arith, Slab, live_count, Sleeping, pending_count, Driving, ring_size, Place, serves_at, IsTold, Reply, Record, SleeperRecord, Shared, Worker, Moments, closes_at, driver_of}, ServingPlaces.is_calm}}
 
 -- WHAT HOLDS AGAIN
 

@@ -1,14 +1,5 @@
 -- Steps of a service: the places between which they go.
-use Rattle.std.proofs.{Common.{◌≡◌, ℕ, zero, Bool, true, false, List, [], None, arith}}
-use Rattle.exec_base.specs.Slab.{Slab, live_count}
-use Rattle.exec_words.specs.Queue.{Queue}
-use Rattle.exec_time.specs.declared.timers.Sleeper.{Sleeper as Sleeping}
-use Rattle.exec_waiters.specs.declared.waiter.Entry.{Entry}
-use Rattle.exec_task.specs.declared.runnable.Runnable.{Runnable}
-use Rattle.exec_machine.specs.declared.{config.Configuration.Configuration, state.Next.Next}
-use Rattle.exec_moves.specs.{declared.{handing.AfterCallbacks.AfterCallbacks, idling.{AfterWait.AfterWait, InRingWait.InRingWait}, place.{InService.InService, Place.Place, InCallbacks.InCallbacks, InMail.InMail}}, Seen.{polls_at, next_at}}
-use Rattle.exec_parts.specs.{declared.parts.{mail.Reply.Reply, seat.Seat.Seat as Chair}, Phased.closing_in, View.owed_at}
-use Rattle.exec_invariants.specs.{Sound.{Aims, HasQueue, LetsGoAt}, HoldPlaces.{cancels_at, heard_at, is_bare_at, sends_cancel_at, spare_at}, Places.{begins_at, calls_back_at, claims_at, clears_at, hands_on_at, has_count_at, has_loot_at, is_pooled_at, joins_at, polled_in, removes_at}}
+use Rattle.exec_invariants.{specs.{Sound.{Aims, HasQueue, LetsGoAt}, HoldPlaces.{cancels_at, heard_at, is_bare_at, sends_cancel_at, spare_at}, Places.{begins_at, calls_back_at, claims_at, clears_at, hands_on_at, has_count_at, has_loot_at, is_pooled_at, joins_at, polled_in, removes_at}}, proofs.Words.{◌≡◌, ℕ, zero, Bool, true, false, List, [], None, arith, Slab, live_count, Queue, Sleeping, Entry, Runnable, Configuration, Next, AfterCallbacks, AfterWait, InRingWait, InService, Place, InCallbacks, InMail, polls_at, next_at, Reply, Chair, closing_in, owed_at}}
 
 -- PLACES
 

@@ -1,9 +1,5 @@
 -- What seats show once one of them was set.
-use Rattle.std.proofs.{Common.{◌≡◌, ℕ, zero, suc, List, [], ◌∷◌, map, Some, refl, ap, ◌∙◌, slice_get, slice_set, option_map}, lemmas.Option.{get_or_from_slice_get, slice_get-map}}
-use Rattle.exec_words.specs.{Queue.Queue, declared.word.PureWord.PureWord}
-use Rattle.exec_task.specs.declared.runnable.Runnable.{Runnable}
-use Rattle.exec_moves.specs.{State.{Things, no_queue, no_word, queue_of, word_of}, Thing.{set_queue, set_word}}
-use Rattle.exec_parts.specs.{declared.parts.{seat.Seat.Seat as Chair, shared.Shared.Shared}, View.{Views, Visible, inbox_at, polls_seen, queue_at, queue_seen, raised_times, seat_seen, seats_seen, things_of, things_with, word_at}}
+use Rattle.exec_invariants.proofs.Words.{◌≡◌, ℕ, zero, suc, List, [], ◌∷◌, map, Some, refl, ap, ◌∙◌, slice_get, slice_set, option_map, get_or_from_slice_get, slice_get-map, Queue, PureWord, Runnable, Things, no_queue, no_word, queue_of, word_of, set_queue, set_word, Chair, Shared, Views, Visible, inbox_at, polls_seen, queue_at, queue_seen, raised_times, seat_seen, seats_seen, things_of, things_with, word_at, arith}
 
 pub map_set : {A C : Type 0} (f : A → C) (xs : List A) (i : ℕ) (x : A) → map f (slice_set xs i x) ≡ slice_set (map f xs) i (f x)
 map_set f [] i x = refl
@@ -14,8 +10,7 @@ map_set f (y ∷ ys) (suc i) x = ap (λ zs. f y ∷ zs) (map_set f ys i x)
 pub map_kept : {A C : Type 0} (f : A → C) (xs : List A) (i : ℕ) (x y : A) → slice_get xs i ≡ Some y → f x ≡ f y → map f (slice_set xs i x) ≡ map f xs
 map_kept f [] i x y there same = refl
 map_kept f (z ∷ zs) zero x y there same =
-    let is : y ≡ z = cc in
-    ap (λ u. u ∷ map f zs) (same ∙ ap f is)
+    ap (λ u. u ∷ map f zs) (same ∙ ap f cc)
 map_kept f (z ∷ zs) (suc i) x y there same = ap (λ us. f z ∷ us) (map_kept f zs i x y there same)
 
 pub polls_kept : (vs : List Visible) (seats : List Chair) (i : ℕ) (chair chair' : Chair) → slice_get seats i ≡ Some chair → chair'.raised ≡ chair.raised → polls_seen vs (slice_set seats i chair') ≡ polls_seen vs seats
@@ -46,23 +41,9 @@ module _ {B : Type 0} where
   -- the run queue of worker j became this
   pub queue_shows : (vs : Views) (j : ℕ) (s : Shared B) (seats : List Chair) (chair : Chair) (q : Queue Runnable) → slice_get s.seats.items j ≡ Some chair → seats ≡ slice_set s.seats.items j (record chair { queue = q })
       → (x : Things) → x ≡ record (things_with vs s) { queues = map queue_at seats; words = map word_at seats; inboxes = map inbox_at seats; wake_polls = polls_seen vs.workers seats } → x ≡ set_queue j (things_with vs s) (queue_seen q)
-  queue_shows vs j s seats chair q there set x shown =
-      let chair' : Chair = record chair { queue = q } in
-      shown
-      ∙ ap (λ (cs : List Chair). record (things_with vs s) { queues = map queue_at cs; words = map word_at cs; inboxes = map inbox_at cs; wake_polls = polls_seen vs.workers cs }) set
-      ∙ ap (λ qs. record (things_with vs s) { queues = qs; words = map word_at (slice_set s.seats.items j chair'); inboxes = map inbox_at (slice_set s.seats.items j chair'); wake_polls = polls_seen vs.workers (slice_set s.seats.items j chair') }) (map_set queue_at s.seats.items j chair')
-      ∙ ap (λ ws. record (set_queue j (things_with vs s) (queue_seen q)) { words = ws; inboxes = map inbox_at (slice_set s.seats.items j chair'); wake_polls = polls_seen vs.workers (slice_set s.seats.items j chair') }) (map_kept word_at s.seats.items j chair' chair there refl)
-      ∙ ap (λ ms. record (set_queue j (things_with vs s) (queue_seen q)) { inboxes = ms; wake_polls = polls_seen vs.workers (slice_set s.seats.items j chair') }) (map_kept inbox_at s.seats.items j chair' chair there refl)
-      ∙ ap (λ ps. record (set_queue j (things_with vs s) (queue_seen q)) { wake_polls = ps }) (polls_kept vs.workers s.seats.items j chair chair' there refl)
+  queue_shows = grind (arith, map_set, map_kept, polls_kept)
 
   -- its wake word
   pub word_shows : (vs : Views) (j : ℕ) (s : Shared B) (seats : List Chair) (chair : Chair) (word : PureWord) → slice_get s.seats.items j ≡ Some chair → seats ≡ slice_set s.seats.items j (record chair { mailbox = record chair.mailbox { waker = word } })
       → (x : Things) → x ≡ record (things_with vs s) { queues = map queue_at seats; words = map word_at seats; inboxes = map inbox_at seats; wake_polls = polls_seen vs.workers seats } → x ≡ set_word j (things_with vs s) word
-  word_shows vs j s seats chair word there set x shown =
-      let chair' : Chair = record chair { mailbox = record chair.mailbox { waker = word } } in
-      shown
-      ∙ ap (λ (cs : List Chair). record (things_with vs s) { queues = map queue_at cs; words = map word_at cs; inboxes = map inbox_at cs; wake_polls = polls_seen vs.workers cs }) set
-      ∙ ap (λ ws. record (things_with vs s) { queues = map queue_at (slice_set s.seats.items j chair'); words = ws; inboxes = map inbox_at (slice_set s.seats.items j chair'); wake_polls = polls_seen vs.workers (slice_set s.seats.items j chair') }) (map_set word_at s.seats.items j chair')
-      ∙ ap (λ qs. record (set_word j (things_with vs s) word) { queues = qs; inboxes = map inbox_at (slice_set s.seats.items j chair'); wake_polls = polls_seen vs.workers (slice_set s.seats.items j chair') }) (map_kept queue_at s.seats.items j chair' chair there refl)
-      ∙ ap (λ ms. record (set_word j (things_with vs s) word) { inboxes = ms; wake_polls = polls_seen vs.workers (slice_set s.seats.items j chair') }) (map_kept inbox_at s.seats.items j chair' chair there refl)
-      ∙ ap (λ ps. record (set_word j (things_with vs s) word) { wake_polls = ps }) (polls_kept vs.workers s.seats.items j chair chair' there refl)
+  word_shows = grind (arith, map_set, map_kept, polls_kept)

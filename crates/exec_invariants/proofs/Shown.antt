@@ -1,12 +1,5 @@
 -- What is seen of a worker by its driver.
-use Rattle.std.proofs.Common.{ℕ, List, ◌++◌, length, map}
-use Rattle.exec_ring.specs.Rings.{RingState, completions}
-use Rattle.exec_waiters.specs.{States.flying_count, declared.deferred.Deferred.Deferred}
-use Rattle.exec_driver.specs.Driving.{Driving}
-use Rattle.exec_machine.specs.{declared.{event.Event.Event, state.MailMessage.MailMessage}, Choice.Choice.Plain, World.Own}
-use Rattle.exec_moves.specs.{declared.place.Place.Place, Seen.{polls_at, next_at, serves_at}, State.{Desk, Things, Moved}}
-use Rattle.exec_parts.specs.{declared.parts.{mail.Reply.Reply, worker.{PutOff.PutOff, Worker.Worker}}, View.{Visible, awaited_from, completions_in, letters_in, own_of, owed_at, desk_of, numbers_of, results_in, slots_seen, number_told, trailing, wake_poll_in}}
-use Rattle.exec_invariants.specs.Flown.{operations}
+use Rattle.exec_invariants.{specs.Flown.operations, proofs.Words.{ℕ, List, ◌++◌, length, map, RingState, completions, flying_count, Deferred, Driving, Event, MailMessage, Plain, Own, Place, polls_at, next_at, serves_at, Desk, Things, Moved, Reply, PutOff, Worker, Visible, awaited_from, completions_in, letters_in, own_of, owed_at, desk_of, numbers_of, results_in, slots_seen, number_told, trailing, wake_poll_in}}
 
 -- what a move makes that names nothing
 abbrev pub makes : Event → Desk → Things → Moved Things

@@ -1,12 +1,6 @@
 -- What a step of the closing leaves: what is sound of the worker, what others rely on, and the balances of all.
-use Rattle.std.{proofs.{Common.{◌≡◌, ◌≢◌, ◌⊎◌, inl, inr, ℕ, ◌*◌, ◌+◌, ◌^◌, ◌<◌, ◌≤◌, ◌||◌, Bool, true, false, Contains, List, [], length, map, sum_by, option_to_list, None, Some, refl, sym, ap, subst, ◌∙◌, arith, slice_get, slice_set, nat_lt, ◌++◌}, lemmas.{Bool.false≢true, Option.slice_get_within}}, specs.Prelude.{not, ◌==◌}}
-use Rattle.std.proofs.lemmas.Bool.{or_right}
-use Rattle.exec_words.specs.{Queue.Queue, Reserved.Reserved}
-use Rattle.exec_task.specs.{TaskSet.shard_at, declared.{runnable.Runnable.Runnable, task.Phase.Phase}}
-use Rattle.exec_moves.specs.{Pop.shard_count, declared.place.{InClosing.InClosing, Place.Place}, Seen.polls_at}
-use Rattle.exec_parts.{specs.{declared.parts.{seat.Seat.Seat as Chair, shared.Shared.Shared, task_slot.TaskSlot.TaskSlot, worker.Worker.Worker}, Phased.{IsPhased, closes_at, closing_in, stage_of}, Roles.is_pool, Calls.IsTold, View.{Views, driver_of, inbox_at, polls_seen, queue_at, things_with, word_at}}, proofs.Facts.by_number}
-use Rattle.exec_invariants.proofs.Showing.{map_kept, polls_kept}
-use Rattle.exec_invariants.{specs.{Drained.{Duties, IsPool}, Due.{AreAsleep, IsDue}, Flown.HasFlown, Gates.HaveGates, Holding.{IsHolding, Mail, box_of, holder_of, mail_in, mail_of_letters, nap_of, thing_of}, HoldPlaces.{cancels_at, heard_at, sends_cancel_at, spare_at}, Places.{begins_at, calls_back_at, claims_at, drops_at, hands_on_at, has_count_at, has_loot_at, in_poll_of, is_armed_at, is_pooled_at, is_published_at, polled_in, searches_at, step_of_poll, task_at, one_if}, Rooted.HearsNext, Sound.{Aims, AreHome, HasBatch, HasGuest, HasLetters, HasQueue, HasRunnable, IsHeld, IsInHand, IsLeft, IsLoot, IsMyMail, IsSearching, IsSeated, IsTied, LetsGoAt, Serves, SoundAt, Stops, has_wakes_at, root_in_hand, served_in}, Names.tellers, Spares.{Spares, SparesChair}, Whole.{HasOne, IsGenuine, IsWhole, Profile, duties_of, may_let_go, queued, runnables_in, stock, with_worker}, Works.Beside}, proofs.{Aside.{SparesSeats, length_same, queue_back, queue_of_chair, stock_same, spares_none}, Onces.has_fewer, PoolClosing.pool_set, PoolKept.{KeepsGates, pool_of, pool_seats}, SparedRecord.there_within}}
+use Rattle.exec_invariants.{specs.{Drained.{Duties, IsPool}, Due.{AreAsleep, IsDue}, Flown.HasFlown, Gates.HaveGates, Holding.{IsHolding, Mail, box_of, holder_of, mail_in, mail_of_letters, nap_of, thing_of}, HoldPlaces.{cancels_at, heard_at, sends_cancel_at, spare_at}, Places.{begins_at, calls_back_at, claims_at, drops_at, hands_on_at, has_count_at, has_loot_at, in_poll_of, is_armed_at, is_pooled_at, is_published_at, polled_in, searches_at, step_of_poll, task_at, one_if}, Rooted.HearsNext, Sound.{Aims, AreHome, HasBatch, HasGuest, HasLetters, HasQueue, HasRunnable, IsHeld, IsInHand, IsLeft, IsLoot, IsMyMail, IsSearching, IsSeated, IsTied, LetsGoAt, Serves, SoundAt, Stops, has_wakes_at, root_in_hand, served_in}, Names.tellers, Spares.{Spares, SparesChair}, Whole.{HasOne, IsGenuine, IsWhole, Profile, duties_of, may_let_go, queued, runnables_in, stock, with_worker}, Works.Beside}, proofs.{Words.{◌≡◌, ◌≢◌, ◌⊎◌, inl, inr, ℕ, ◌*◌, ◌+◌, ◌^◌, ◌<◌, ◌≤◌, ◌||◌, Bool, true, false, Contains, List, [], length, map, sum_by, option_to_list, None, Some, refl, sym, ap, subst, ◌∙◌, arith, slice_get, slice_set, nat_lt, ◌++◌, false≢true, slice_get_within, not, ◌==◌, or_right, Queue, Reserved, shard_at, Runnable, Phase, shard_count, InClosing, Place, polls_at, Chair, Shared, TaskSlot, Worker, IsPhased, closes_at, closing_in, stage_of, is_pool, IsTold, Views, driver_of, inbox_at, polls_seen, queue_at, things_with, word_at, by_number}, Showing.{map_kept, polls_kept}, Aside.{SparesSeats, length_same, queue_back, queue_of_chair, stock_same, spares_none}, Onces.has_fewer, PoolClosing.pool_set, PoolKept.{KeepsGates, pool_of, pool_seats}, SparedRecord.there_within}}
+pub use Rattle.exec_invariants.proofs.SlotTasks.{none_in}
 
 -- what is shown of these views is shown of those
 pub shown_as : {A : Type 0} (m : A) (f : Views → A) (v v' : Views) → v' ≡ v → m ≡ f v → m ≡ f v'
@@ -31,9 +25,6 @@ pub record Follows (q : Place) : Type 0 where
   pub sends : sends_cancel_at q ≡ false
   pub heard : heard_at q ≡ None
   pub queue : (own : Queue Runnable) → own.held ≡ [] → HasQueue q own
-
-pub none_in : (r : Runnable) → Contains [] r → ⊥
-none_in r (k, few, is) = omega (arith, few)
 
 -- the worker there
 abbrev pub onward : Place → Bool → Reserved Mail → ℕ → Worker → Worker
@@ -140,8 +131,7 @@ module _ {B : Type 0} where
       let s1 : Shared B = record s { seats = s'.seats; set = s'.set; global = s'.global; barrier_open = s'.barrier_open; stopped = s'.stopped } in
       let chair : (chair : Chair) → slice_get s.seats.items j ≡ Some chair → (chair' : Chair) × (slice_get s'.seats.items j ≡ Some chair') × SparesChair chair chair' = λ chair there. seats.chair j chair other there in
       let by_zero : j ≡ 0 → (s'.stopped ≡ s.stopped) × (s'.set.closed ≡ s.set.closed) = λ zero. on.by_zero (λ is. other (zero ∙ sym is)) in
-      let done : Spares j s s1 = assumption (chair, by_zero, seats, on, spares_none j s) in
-      subst (λ z. Spares j s z) (sym kept) done
+      subst (λ z. Spares j s z) (sym kept) (assumption (chair, by_zero, seats, on, spares_none j s))
 
   -- THE BALANCES
 
@@ -160,8 +150,7 @@ module _ {B : Type 0} where
   pools_on i s s' seated seats pools j chair at =
       by_number j i
       (λ other.
-      let within : j < length s.seats.items = subst (λ n. j < n) seats.many (slice_get_within s'.seats.items j chair at) in
-      let old = there_within s.seats.items j within in
+      let old = there_within s.seats.items j (subst (λ n. j < n) seats.many (slice_get_within s'.seats.items j chair at)) in
       let now = seats.chair j old.0 other old.1 in
       let is : now.0 ≡ chair = cc (sym now.1, at) in
       ap (λ (c : Chair). c.pool) (sym is) ∙ now.2.pool ∙ pools j old.0 old.1)

@@ -1,12 +1,5 @@
 -- What holds of the tasks where a step of a poll changes one task's slot.
-use Rattle.std.proofs.{Common.{[], ◌≡◌, ◌≢◌, inr, ℕ, ◌+◌, Bool, true, false, Contains, List, length, Option, Some, None, refl, sym, ap, subst, ◌∙◌, arith, slice_get, slice_set, option_to_list, if◌then◌else◌}, lemmas.{Bool.false≢true, List.length-set}}
-use Rattle.exec_words.specs.Queue.{Queue}
-use Rattle.exec_task.specs.{Phases.{is_polled, runnable_of}, declared.runnable.Runnable.Runnable}
-use Rattle.exec_machine.specs.declared.config.Configuration.{Configuration}
-use Rattle.exec_moves.specs.{declared.place.{InPoll.InPoll, Place.Place}, Seen.{polls_at, polls_in}}
-use Rattle.exec_parts.{specs.{declared.parts.{record.Record.Record, role.Role.Role, seat.Seat.Seat as Chair, shared.Shared.Shared, sleeping.SleeperRecord.SleeperRecord, task_slot.TaskSlot.TaskSlot, worker.Worker.Worker}, Phased.{IsPhased, closes_at, closing_in, is_complete, stage_of}, Roles.is_pool, Calls.IsTold, View.driver_of}, proofs.Facts.{by_number, not_same, same_Some, set_elsewhere, set_there}}
-use Rattle.exec_invariants.specs.{Due.IsDue, Flown.HasFlown, Holding.Mail, HoldPlaces.{cancels_at, heard_at, is_bare_at, sends_cancel_at, spare_at}, Places.{begins_at, calls_back_at, claims_at, clears_at, hands_on_at, has_count_at, has_loot_at, in_poll_of, is_armed_at, is_pooled_at, is_published_at, joins_at, one_if, or_polls, passes_at, polled_in, searches_at, step_of_poll, task_at}, Rooted.HearsNext, Sound.{Aims, AreHome, AreResting, HasBatch, HasGuest, HasLetters, HasQueue, HasRunnable, IsHeld, IsInHand, IsLeft, IsLoot, IsResting, IsRunnable, IsSearching, IsSeated, IsTied, LetsGo, LetsGoAt, SoundAt, Stands, Stops, StopsIn, has_wakes_at, one_of, root_in_hand, served_in, Serves}, Names.tellers, Whole.IsGenuine}
-use Rattle.exec_invariants.proofs.Dedicated.{all_serve}
+use Rattle.exec_invariants.{specs.{Due.IsDue, Flown.HasFlown, Holding.Mail, HoldPlaces.{cancels_at, heard_at, is_bare_at, sends_cancel_at, spare_at}, Places.{begins_at, calls_back_at, claims_at, clears_at, hands_on_at, has_count_at, has_loot_at, in_poll_of, is_armed_at, is_pooled_at, is_published_at, joins_at, one_if, or_polls, passes_at, polled_in, searches_at, step_of_poll, task_at}, Rooted.HearsNext, Sound.{Aims, AreHome, AreResting, HasBatch, HasGuest, HasLetters, HasQueue, HasRunnable, IsHeld, IsInHand, IsLeft, IsLoot, IsResting, IsRunnable, IsSearching, IsSeated, IsTied, LetsGo, LetsGoAt, SoundAt, Stands, Stops, StopsIn, has_wakes_at, one_of, root_in_hand, served_in, Serves}, Names.tellers, Whole.IsGenuine}, proofs.{Words.{[], ◌≡◌, ◌≢◌, inr, ℕ, ◌+◌, Bool, true, false, Contains, List, length, Option, Some, None, refl, sym, ap, subst, ◌∙◌, arith, slice_get, slice_set, option_to_list, if◌then◌else◌, false≢true, length-set, Queue, is_polled, runnable_of, Runnable, Configuration, InPoll, Place, polls_at, polls_in, Record, Role, Chair, Shared, SleeperRecord, TaskSlot, Worker, IsPhased, closes_at, closing_in, is_complete, stage_of, is_pool, IsTold, driver_of, by_number, not_same, same_Some, set_elsewhere, set_there}, Dedicated.all_serve}}
 
 -- WHERE IT LEADS: what such a place says
 
@@ -232,9 +225,7 @@ module _ {B : Type 0} where
   guest_tasked t x q w h s slot slot' sound it =
       let tasks : List (TaskSlot B) = s.tasks.items in
       let root : slice_get (slice_set tasks t slot') w.root ≡ slice_get tasks w.root = set_elsewhere tasks t w.root slot' (λ e. it.apart (sym e)) in
-      let before : polled_in w.root (Place.Poll t x) ≡ None = elsewhere w.root (polls_in t x) x (polls_other t w.root x it.apart) in
       let after : polled_in w.root q ≡ None = elsewhere w.root (polls_at q) (step_of_poll q) (λ is. it.polls w.root is refl) in
-      let same : polled_in w.root (Place.Poll t x) ≡ polled_in w.root q = before ∙ sym after in
       let pool : is_pool w.role ≡ true = guest_pool t x w s sound it.apart in
       let run = subst (λ o. HasRunnable w.index w.root w.root_ready o tasks) (idle_hand t w.root x w.hand it.apart) sound.runnable in
       let pooled : is_pooled_at q ≡ true → is_pool w.role ≡ true = λ is. pool in
@@ -243,5 +234,5 @@ module _ {B : Type 0} where
       let resting = resting_set tasks t slot slot' it.there (λ home. it.rests) sound.resting in
       let going : (slot : TaskSlot B) → slice_get (slice_set s.tasks.items t slot') w.root ≡ Some slot → is_complete slot.cell.phase ≡ false = λ o at_root. (sound.phased sound.seated.seat sound.seated.there).root o (sym root ∙ at_root) in
       let stands : (slot : TaskSlot B) → slice_get (slice_set s.tasks.items t slot') w.root ≡ Some slot → Stands (polled_in w.root q) w.index slot =
-      λ o at_root. subst (λ y. Stands y w.index o) same (sound.tied.stands o (sym root ∙ at_root)) in
+      λ o at_root. subst (λ y. Stands y w.index o) (elsewhere w.root (polls_in t x) x (polls_other t w.root x it.apart) ∙ sym after) (sound.tied.stands o (sym root ∙ at_root)) in
       assumption (pooled, all_serve (polls_at q) w.root w.role pool, homes, runnable, resting, going, stands, it)

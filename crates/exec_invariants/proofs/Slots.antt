@@ -1,11 +1,5 @@
 -- Steps of a poll that change one task's slot: what holds then, and what they leave of others.
-use Rattle.std.proofs.{Common.{[], ◌≡◌, ◌≢◌, ◌⊎◌, inr, ⊎_elim, ℕ, ◌+◌, ◌<◌, ◌≤◌, ◌==◌, Bool, true, false, List, ◌∷◌, ◌++◌, length, map, Option, Some, None, refl, sym, ap, subst, ◌∙◌, arith, slice_get, slice_index_or, slice_set, option_map, option_to_list, if◌then◌else◌}, lemmas.{List.{length-set, map-set}, Option.{get_or_from_slice_get, slice_get-map, slice_get_within}}}
-use Rattle.exec_opens.specs.Opens.{OpenState}
-use Rattle.exec_task.specs.{Phases.is_polled, declared.{body.Said.Said, runnable.Runnable.Runnable, task.Phase.Phase}}
-use Rattle.exec_machine.specs.{declared.event.Event.Event, After.{own_after, common_after}, Allowed.allowed, Choice.Choice, Progress.Plan, Tests.AllTrue, World.no_task}
-use Rattle.exec_moves.specs.{declared.place.{InPoll.InPoll, Place.Place}, Move.move_at, Seen.polls_at}
-use Rattle.exec_parts.{specs.{declared.parts.{record.Record.Record, shared.Shared.Shared, task_slot.TaskSlot.TaskSlot, worker.Worker.Worker}, Phased.{closes_at, closing_in, has_left, is_complete}, Roles.is_pool, Spots.Spot, View.{Views, visible, with_view, own_of, desk_of, common_of, task_seen, things_with}}, proofs.Facts.{and_right, by_number, same_Some, set_elsewhere, set_there}}
-use Rattle.exec_invariants.{specs.{Drained.IsBefore, Hearing.Hears, Holding.{IsHolding, box_of, holder_of, nap_of, thing_of}, Gates.HaveGates, Places.{Drops, claims_at, clears_at, drops_at, has_count_at, is_published_at, one_if, removes_at}, Sound.{AreHome, SoundAt}, Spares.{Spares, SparesPolled}, Whole.{HasOne, IsGenuine, IsWhole, Profile, duties_of, hands_of, is_number, may_let_go, runnables_in, stock, with_worker}, Works.{Beside, Steps, Suits, Works}}, proofs.{Aside.{spares_none}, Dedicated.chair_of_pool, Hearing.hears_so, PoolKept.{Redoes, chosen_other, chosen_own, is_its, number_is, pool_slot}, Turning.{set_found, view_found}, SlotTasks.{IsAfter, one_true, Tasked, sound_tasked, Keeps, genuine_set, guest_pool}}}
+use Rattle.exec_invariants.{specs.{Drained.IsBefore, Hearing.Hears, Holding.{IsHolding, box_of, holder_of, nap_of, thing_of}, Gates.HaveGates, Places.{Drops, claims_at, clears_at, drops_at, has_count_at, is_published_at, one_if, removes_at}, Sound.{AreHome, SoundAt}, Spares.{Spares, SparesPolled}, Whole.{HasOne, IsGenuine, IsWhole, Profile, duties_of, hands_of, is_number, may_let_go, runnables_in, stock, with_worker}, Works.{Beside, Steps, Suits, Works}}, proofs.{Words.{[], ◌≡◌, ◌≢◌, ◌⊎◌, inr, ⊎_elim, ℕ, ◌+◌, ◌≤◌, ◌==◌, Bool, true, false, List, ◌∷◌, ◌++◌, length, map, Option, Some, None, refl, sym, ap, subst, ◌∙◌, arith, slice_get, slice_index_or, slice_set, option_map, option_to_list, if◌then◌else◌, length-set, map-set, get_or_from_slice_get, slice_get-map, slice_get_within, OpenState, is_polled, Said, Runnable, Phase, Event, own_after, common_after, allowed, Choice, Plan, AllTrue, no_task, InPoll, Place, move_at, polls_at, Record, Shared, TaskSlot, Worker, closes_at, closing_in, has_left, is_complete, is_pool, Spot, Views, visible, with_view, own_of, desk_of, common_of, task_seen, things_with, and_right, by_number, same_Some, set_elsewhere, set_there}, Aside.spares_none, Dedicated.chair_of_pool, Hearing.hears_so, PoolKept.{Redoes, chosen_other, chosen_own, is_its, number_is, pool_slot}, Turning.{set_found, view_found}, SlotTasks.{IsAfter, one_true, Tasked, sound_tasked, Keeps, genuine_set, guest_pool}}}
 
 -- a worker that passes no permit on, and has no request join a gate
 pub gates_free : (i : ℕ) (drops drops' : ℕ → Drops) (opens : List OpenState) (rs : List Record) → ((j : ℕ) → j ≢ i → drops' j ≡ drops j) → (drops' i).passes ≡ None → (drops' i).joins ≡ None → HaveGates drops opens rs → HaveGates drops' opens rs
@@ -59,12 +53,10 @@ module _ {B : Type 0} where
       λ home polled its. subst (λ j. IsBefore j s.seats.items × (then_polls j ≡ Some t)) (sym its.0) (before home its.1, chosen_own w.index (polls_at q) (others.polled_by w.index) ∙ its.1) in
       -- a worker that polled it still does, where it is polled
       let still : slot.home ≡ None → is_polled slot.cell.phase ≡ true → is_polled slot'.cell.phase ≡ true → polls_at w.place ≡ Some t → polls_at q ≡ Some t = λ home polled polled' is.
-      let mine : one_if (is_number (polls_at w.place) t) ≡ 1 = ap one_if (is_its (polls_at w.place) t is) in
       let total : others.polls t + one_if (is_number (polls_at w.place) t) ≡ one_if (is_polled slot.cell.phase) = whole.polls t slot there home in
       let one : one_if (is_polled slot.cell.phase) ≡ 1 = ap one_if polled in
       let total' : others.polls t + one_if (is_number (polls_at q) t) ≡ one_if (is_polled slot'.cell.phase) = bal.polls home (others.polls t) total in
-      let one' : one_if (is_polled slot'.cell.phase) ≡ 1 = ap one_if polled' in
-      number_is (polls_at q) t (one_true (is_number (polls_at q) t) (omega (arith, mine, total, one, total', one'))) in
+      number_is (polls_at q) t (one_true (is_number (polls_at q) t) (omega (arith, ap one_if (is_its (polls_at w.place) t is), total, one, total', ap one_if polled'))) in
       let as_before : slot.home ≡ None → is_polled slot'.cell.phase ≡ true → (slot'.poller ≡ slot.poller) × (is_polled slot.cell.phase ≡ true) → IsBefore slot'.poller s.seats.items × (then_polls slot'.poller ≡ Some t) = λ home polled its.
       let it = whole.pool.who_polls t slot there home its.1 in
       subst (λ j. IsBefore j s.seats.items × (then_polls j ≡ Some t)) (sym its.0) (
@@ -97,7 +89,6 @@ module _ {B : Type 0} where
   whole_slot t q w f h s s' slot slot' others none unclaimed uncounted unpublished uncleared before to there items bal whole =
       let shuffled : (m n k : ℕ) → (m + n) + k ≡ (m + k) + n = λ m n k. omega arith in
       let g : Bool = may_let_go s in
-      let counted : has_count_at q ≡ has_count_at w.place = to.counts ∙ sym uncounted in
       let posted : is_published_at q ≡ is_published_at w.place = to.published ∙ sym unpublished in
       let was : (k : ℕ) (o : TaskSlot B) → slice_get s'.tasks.items k ≡ Some o → k ≢ t → slice_get s.tasks.items k ≡ Some o = λ k o found apart. sym (set_elsewhere s.tasks.items t k slot' apart) ∙ ap (λ ts. slice_get ts k) (sym items) ∙ found in
       let is : (k : ℕ) (o : TaskSlot B) → slice_get s'.tasks.items k ≡ Some o → k ≡ t → slot' ≡ o = λ k o found same. same_Some slot' o (sym (set_there s.tasks.items t slot' slot there) ∙ ap (λ ts. slice_get ts t) (sym items) ∙ subst (λ m. slice_get s'.tasks.items m ≡ Some o) same found) in
@@ -126,7 +117,7 @@ module _ {B : Type 0} where
             let now : others.polls t + one_if (is_number (polls_at q) t) ≡ one_if (is_polled slot'.cell.phase) = bal.polls old_home (others.polls t) (whole.polls t slot there old_home) in
             subst (λ m. others.polls m + one_if (is_number (polls_at q) m) ≡ one_if (is_polled o.cell.phase)) (sym same) (now ∙ ap (λ (y : TaskSlot B). one_if (is_polled y.cell.phase)) e));
         claims = λ j chair found. ap (λ o. others.claims j + one_if (is_number o j)) (to.claims ∙ sym unclaimed) ∙ whole.claims j chair found;
-        counts = rw (counted, posted) whole.counts;
+        counts = rw (to.counts ∙ sym uncounted, posted) whole.counts;
         bits = rw posted whole.bits;
         set = whole.set;
         queued_here = λ j chair r found has_it. genuine r (whole.queued_here j chair r found has_it);
@@ -134,8 +125,7 @@ module _ {B : Type 0} where
         places = λ open_still. rw (items, length-set) (whole.places open_still);
         made = λ u more.
             let beyond : length s.tasks.items ≤ u = subst (λ n. n ≤ u) (ap length items ∙ length-set s.tasks.items t slot') more in
-            let inside : t < length s.tasks.items = slice_get_within s.tasks.items t slot there in
-            let apart : u ≢ t = λ same. omega (arith, beyond, inside, same) in
+            let apart : u ≢ t = λ same. omega (arith, beyond, slice_get_within s.tasks.items t slot there, same) in
             let old = whole.made u beyond in (
               ap (λ ls. (others.runnables u + runnables_in u ls) + stock u s) (hands h) ∙ ap (λ n. (others.runnables u + n) + stock u s) (bal.apart u apart) ∙ sym (ap (λ ls. (others.runnables u + runnables_in u ls) + stock u s) (hands w.hand)) ∙ old.0,
               ap (λ b. others.polls u + one_if b) (bal.polls_apart u apart) ∙ old.1,
@@ -156,15 +146,12 @@ module _ {B : Type 0} where
       append_none [] = refl
       append_none (x ∷ xs) = ap (λ ys. x ∷ ys) (append_none xs)
 
-module _ {B : Type 0} where
   -- who is open hasn't passed the barrier
   pub before_barrier : (p : Place) (w : Worker) (s : Shared B) → SoundAt p w s → is_pool w.role ≡ true → has_left (closes_at p) (closing_in p) ≡ false → IsBefore w.index s.seats.items
   before_barrier p w s sound of_pool unleft =
       let seat = sound.seated.seat in
-      let phased = sound.phased seat sound.seated.there in
-      let pool : seat.pool ≡ true = chair_of_pool p w s sound seat sound.seated.there ∙ of_pool in
-      let left : seat.left ≡ false = phased.left ∙ and_right seat.pool (has_left (closes_at p) (closing_in p)) unleft in
-      record { chair = seat; there = sound.seated.there; going = rw (left, pool) refl }
+      let left : seat.left ≡ false = (sound.phased seat sound.seated.there).left ∙ and_right seat.pool (has_left (closes_at p) (closing_in p)) unleft in
+      record { chair = seat; there = sound.seated.there; going = rw (left, chair_of_pool p w s sound seat sound.seated.there ∙ of_pool) refl }
 
   pub before_in_poll : (t : ℕ) (x : InPoll) (w : Worker) (s : Shared B) → SoundAt (Place.Poll t x) w s → is_pool w.role ≡ true → IsBefore w.index s.seats.items
   before_in_poll t x w s sound of_pool = before_barrier (Place.Poll t x) w s sound of_pool refl

@@ -1,10 +1,5 @@
 -- The slots of requests as they are seen, where one is written again, or is free again; and which of them are awaited.
-use Rattle.std.proofs.{Common.{◌≡◌, ◌≢◌, ℕ, zero, suc, ◌+◌, ◌==◌, ◌||◌, not, cond, Bool, true, false, List, [], ◌∷◌, filter, set, slice_get, slice_index_or, Some, None, if◌then◌else◌, refl, sym, ap, ◌∙◌, arith}, lemmas.{Bool.{eq-eqb}}}
-use Rattle.exec_base.specs.{Slab.{Slab, freed, is_live, removed, value_at, written}, declared.slab.{Id.Id, Slot.{Slot, TheVariants.{Live}}}}
-use Rattle.exec_waiters.{specs.declared.waiter.Entry.Entry}
-use Rattle.exec_moves.specs.{Slots.{is_in_slots, vacated}, Told.has_number}
-use Rattle.exec_parts.{specs.{declared.parts.mail.Reply.Reply, Records.number_in, View.{awaited_from, awaits_entry, is_awaited, slots_seen}}, proofs.Facts.{not_same, same_Some}}
-use Rattle.exec_invariants.proofs.{HeldCounts.{awaited_set, slots_set}, FiringSlots.{alive_at, number_there, at_zero, OneBed, bed_in, bed_vacated}}
+use Rattle.exec_invariants.proofs.{Words.{◌≡◌, ◌≢◌, ℕ, zero, suc, ◌+◌, ◌==◌, ◌||◌, not, cond, Bool, true, false, List, [], ◌∷◌, filter, set, slice_get, slice_index_or, Some, None, if◌then◌else◌, refl, sym, ap, ◌∙◌, arith, eq-eqb, Slab, freed, is_live, removed, value_at, written, Id, Slot, Live, Entry, is_in_slots, vacated, has_number, Reply, number_in, awaited_from, awaits_entry, is_awaited, slots_seen, not_same, same_Some}, HeldCounts.{awaited_set, slots_set}, FiringSlots.{alive_at, number_there, at_zero, OneBed, bed_in, bed_vacated}}
 
 -- what is live stands in its slot
 pub live_at : (s : Slab (Entry Reply Reply)) (id : Id) (e : Entry Reply Reply) → value_at s id ≡ Some e → slice_get s.slots id.index ≡ Some (Live id.generation e)

@@ -1,15 +1,5 @@
 -- What holds of a worker by the records of its requests and sleepers alone, where a step of another leaves those.
-use Rattle.std.{proofs.{Common.{◌≡◌, ℕ, ◌+◌, ◌≤◌, ◌<◌, ◌==◌, ◌||◌, Bool, true, false, List, [], ◌∷◌, length, Option, Some, IsSome, refl, sym, ap, subst, ◌∙◌, arith, slice_get}, lemmas.{Bool.{false≢true, eq-eqb}, Option.slice_get_within}}, specs.Prelude.None}
-use Rattle.exec_base.specs.{Slab.{Slab, value_at}, declared.slab.Id.Id}
-use Rattle.exec_time.specs.declared.timers.Sleeper.{Sleeper as Sleeping}
-use Rattle.exec_ring.specs.declared.completion.Completion.{Completion}
-use Rattle.exec_waiters.specs.{States.waiter_at, declared.{deferred.Deferred.Deferred, waiter.Waiter.Waiter, waiter_id.WaiterId.WaiterId}}
-use Rattle.exec_driver.specs.Driving.{Driving}
-use Rattle.exec_lists.specs.Lists.{is_among}
-use Rattle.exec_machine.specs.{declared.state.Waiting.Waiting, Tests.{is_asleep, is_resolved, is_staged}}
-use Rattle.exec_moves.specs.declared.{handing.Heard.Heard, place.{InPoll.InPoll, InService.InService}}
-use Rattle.exec_parts.{specs.{declared.parts.{mail.{Reply.Reply, Subject.Subject}, names.Names.Names, record.Record.Record, sleeping.SleeperRecord.SleeperRecord}, Records.number_in, Serving.{AreKnown, is_one_of}}, proofs.Facts.{same_number, or_left, or_right}}
-use Rattle.exec_invariants.{specs.{Due.{AreAsleep, AreTimed}, Flown.{AreLanded, HasFlown, operations, IsPlain}, Holding.Mail, HoldPlaces.Hearing, Places.one_if, Rooted.{HearsNext, IsRooted, completions_of, results_of}, Sound.{AreOver, IsLetter, IsMineIn, IsMyMail, MayStop, StopsIn}, Names.{IsNamed, IsSubmitted, IsAlike}, Spares.{RecordsEndure, SleepersEndure, SparedRecords, SparedSleepers, SparesRecord, SparesRecords, SparesSleeper, SparesSleepers}}, proofs.{FiringNames.naps_on, SparedRecord.{there_within, live_of, mine_asleep, applied_still, worker_still, over_still, was_held, goes_still, answer_by, alike_by, timed_by, plain_by, kept_by, reply_by, stands_by, paid_still, pays_by, sleeper_worker_still, ends_still, watches_by, sleeper_pays_by}}}
+use Rattle.exec_invariants.{specs.{Due.{AreAsleep, AreTimed}, Flown.{AreLanded, HasFlown, operations, IsPlain}, Holding.Mail, HoldPlaces.Hearing, Places.one_if, Rooted.{HearsNext, IsRooted, completions_of, results_of}, Sound.{AreOver, IsLetter, IsMineIn, IsMyMail, MayStop, StopsIn}, Names.{IsNamed, IsSubmitted, IsAlike}, Spares.{RecordsEndure, SleepersEndure, SparedRecords, SparedSleepers, SparesRecord, SparesRecords, SparesSleeper, SparesSleepers}}, proofs.{Words.{◌≡◌, ℕ, ◌+◌, ◌≤◌, ◌<◌, ◌==◌, Bool, true, false, List, [], ◌∷◌, length, Option, Some, IsSome, refl, sym, ap, subst, ◌∙◌, arith, slice_get, false≢true, eq-eqb, slice_get_within, None, Slab, value_at, Id, Sleeping, Completion, waiter_at, Deferred, Waiter, WaiterId, Driving, is_among, Waiting, is_asleep, is_resolved, is_staged, Heard, InPoll, InService, Reply, Subject, Names, Record, SleeperRecord, number_in, AreKnown, is_one_of, same_number, or_left, or_right}, FiringNames.naps_on, SparedRecord.{there_within, live_of, mine_asleep, applied_still, worker_still, over_still, was_held, goes_still, answer_by, alike_by, timed_by, plain_by, kept_by, reply_by, stands_by, paid_still, pays_by, sleeper_worker_still, ends_still, watches_by, sleeper_pays_by}}}
 
 -- THE RECORDS OF A WORKER'S REQUESTS AND SLEEPERS are spared
 pub record KeepsMine (i : ℕ) (rs rs' : List Record) (ss ss' : List SleeperRecord) : Type 0 where
@@ -39,17 +29,12 @@ module _ (i : ℕ) (rs rs' : List Record) (ss ss' : List SleeperRecord) (keeps :
   known_apart [] known own = tt
   known_apart (k ∷ ks) known own =
       let x = there_within rs k known.0 in
-      let mine : x.0.shown.worker ≡ i = own k x.0 (or_left (k == k) (is_one_of k ks) (eq-eqb k k refl)) x.1 in
-      let now = keeps.records k x.0 x.1 mine in
+      let now = keeps.records k x.0 x.1 (own k x.0 (or_left (k == k) (is_one_of k ks) (eq-eqb k k refl)) x.1) in
       (slice_get_within rs' k now.0 now.1, known_apart ks known.1 (λ j y among there. own j y (or_right (k == j) (is_one_of j ks) among) there))
 
   known_at : (ks : List ℕ) (k : ℕ) → AreKnown ks rs → is_one_of k ks ≡ true → k < length rs
   known_at [] k known among = absurd (false≢true among)
-  known_at (q ∷ ks) k known among = by (q == k) refl among (λ h. known_at ks k known.1 h)
-    where
-      by : (b : Bool) → (q == k) ≡ b → (b || is_one_of k ks) ≡ true → (is_one_of k ks ≡ true → k < length rs) → k < length rs
-      by true is h rest = subst (λ n. n < length rs) (same_number q k is) known.0
-      by false is h rest = rest h
+  known_at (q ∷ ks) k known among = grind (arith, same_number, known_at ks k)
 
   submitted_apart : (n : Names) (d : Driving Reply Reply) → IsSubmitted i n.staged.items n.untold.items d.ring rs → IsSubmitted i n.staged.items n.untold.items d.ring rs'
   submitted_apart n d sub =

@@ -1,22 +1,8 @@
 -- One record of a request or a sleeper that a step of another spares.
-use Rattle.std.proofs.{Common.{◌≡◌, ◌⊎◌, ⊎_elim, ℕ, ◌≤◌, ◌<◌, true, false, List, length, Some, Result, IsSome, refl, sym, ap, subst, arith, inl, inr, slice_get}, lemmas.{Bool.{cases_lt}, Option.{slice_get_within, slice_get_cases}}}
-use Rattle.exec_base.specs.{Slab.{Slab, value_at}, declared.{error.Error.Error, slab.Id.Id}}
-use Rattle.exec_time.specs.declared.timers.Observer.{Observer as Watching}
-use Rattle.exec_request.specs.declared.output.RequestOutput.{RequestOutput}
-use Rattle.exec_waiters.{specs.{States.{waiter_at}, declared.{waiter.{Entry.Entry, Waiter.Waiter}}}, proofs.Changes.entry_of}
-use Rattle.exec_driver.specs.Driving.{Driving}
-use Rattle.exec_machine.specs.{declared.state.{Forwarding.{Forwarding, TheVariants.{Unsent, Sent}}, Sleeper.Sleeper}, Tests.{is_applied, is_asleep, is_resolved, is_unsent}}
-use Rattle.exec_parts.{specs.declared.parts.{mail.Reply.Reply, names.Names.Names, record.Record.Record, sleeping.SleeperRecord.SleeperRecord}}
-use Rattle.exec_invariants.specs.{Due.IsTimed, Flown.IsPlain, Holding.{IsAnswerOf, thing_of}, Rooted.{IsKept, IsReplyFor, Pays, SleeperPays, StandsAt, Watches, ends_elsewhere, goes_elsewhere}, Names.IsAlike, Spares.{Endures, SleeperEndures, SleepersEndure, SparesRecord, SparesSleeper}}
+use Rattle.exec_invariants.{specs.{Due.IsTimed, Flown.IsPlain, Holding.{IsAnswerOf, thing_of}, Rooted.{IsKept, IsReplyFor, Pays, SleeperPays, StandsAt, Watches, ends_elsewhere, goes_elsewhere}, Names.IsAlike, Spares.{Endures, SleeperEndures, SleepersEndure, SparesRecord, SparesSleeper}}, proofs.Words.{◌≡◌, ◌⊎◌, ⊎_elim, ℕ, ◌≤◌, ◌<◌, true, false, List, length, Some, Result, IsSome, refl, sym, ap, subst, arith, inl, cases_lt, slice_get_within, Slab, value_at, Error, Id, Watching, RequestOutput, waiter_at, Entry, Waiter, entry_of, Driving, Forwarding, Unsent, Sent, Sleeper, is_applied, is_asleep, is_resolved, is_unsent, Reply, Names, Record, SleeperRecord}}
+pub use Rattle.exec_parts.proofs.Facts.{found_within as there_within}
 
 -- what stands within a list
-pub there_within : {X : Type 0} (xs : List X) (k : ℕ) → k < length xs → (x : X) × (slice_get xs k ≡ Some x)
-there_within xs k within =
-    elim ((slice_get_cases xs k).1) [
-      | inl found ↦ (found.0, found.2)
-      | inr none ↦ absurd (omega arith)
-    ]
-
 pub live_of : (requests : Slab (Entry Reply Reply)) (id : Id) (it : Waiter Reply Reply) → waiter_at requests id ≡ Some it → IsSome (value_at requests id)
 live_of requests id it live = rw (entry_of (value_at requests id) it live) refl
 
@@ -92,8 +78,7 @@ sleepers_stay ss ss' endure =
     (λ (less : length ss' < length ss).
     let x = there_within ss (length ss') less in
     let now = endure (length ss') x.0 x.1 in
-    let within = slice_get_within ss' (length ss') now.0 now.1 in
-    absurd (omega (arith, within)))
+    absurd (omega (arith, slice_get_within ss' (length ss') now.0 now.1)))
     (λ (most : length ss ≤ length ss'). most)
     (cases_lt (length ss') (length ss))
 

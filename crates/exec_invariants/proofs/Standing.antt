@@ -1,14 +1,5 @@
 -- What the records and the driver of a worker say alike: which requests stand, and what may go into the submission queue.
-use Rattle.std.{proofs.{Common.{◌≡◌, ℕ, zero, suc, ◌+◌, ◌==◌, ◌&&◌, ◌||◌, Bool, true, false, not, cond, List, [], ◌∷◌, map, get_or, Option, Some, None, refl, sym, ap, ◌∙◌, arith, slice_get, count_by}, lemmas.{Bool.{Decides.nat_tests, false≢true, eq-eqb}, List.{Folds.list_any_at, Recursion.is_count_by}, Option.{slice_get_within, get_or_from_slice_get}}}, specs.List.list_any}
-use Rattle.std.proofs.lemmas.Bool.{and_parts}
-use Rattle.exec_base.specs.{Slab.{Slab, value_at, value_in, slot_at}, declared.slab.{Id.Id, Slot.{Slot, TheVariants.{Live, Vacant}}}}
-use Rattle.exec_time.specs.declared.timers.Sleeper.{Sleeper as Sleeping}
-use Rattle.exec_waiters.specs.{States.{waiter_at, waiter_of, counts_pending, pending_count}, declared.{waiter.{Waiter.Waiter, Entry.{Entry, TheVariants.{Pending}}}}}
-use Rattle.exec_driver.specs.{Driving.{Driving, has_pending}}
-use Rattle.exec_machine.specs.{declared.{config.Configuration.Configuration, state.Request.Request}, Ranges.ring_size, Tests.{is_resolved}}
-use Rattle.exec_moves.specs.Load.{has_submissions}
-use Rattle.exec_parts.{specs.{declared.parts.{mail.Reply.Reply, names.Names.Names, record.Record.Record, sleeping.SleeperRecord.SleeperRecord, worker.Worker.Worker}, Records.number_in, View.{own_of, driver_of}}, proofs.Facts.{same_number, or_right, not-true}}
-use Rattle.exec_invariants.specs.Names.{IsNamed}
+use Rattle.exec_invariants.{specs.Names.IsNamed, proofs.Words.{◌≡◌, ℕ, zero, suc, ◌+◌, ◌==◌, ◌&&◌, ◌||◌, Bool, true, false, not, cond, List, [], ◌∷◌, map, get_or, Option, Some, None, refl, sym, ap, ◌∙◌, arith, slice_get, count_by, nat_tests, false≢true, eq-eqb, list_any_at, is_count_by, slice_get_within, get_or_from_slice_get, list_any, and_parts, Slab, value_at, value_in, slot_at, Id, Slot, Live, Vacant, Sleeping, waiter_at, waiter_of, counts_pending, pending_count, Waiter, Entry, Pending, Driving, has_pending, Configuration, Request, ring_size, is_resolved, has_submissions, Reply, Names, Record, SleeperRecord, Worker, number_in, own_of, driver_of, same_number, or_right, not-true}}
 
 -- TESTS OVER LISTS
 

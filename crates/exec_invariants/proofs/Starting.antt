@@ -1,19 +1,5 @@
 -- What the staging of a request's operation is to the machine.
-use Rattle.std.{proofs.{Common.{◌≡◌, ℕ, ◌+◌, ◌*◌, ◌<◌, ◌&&◌, Bool, true, false, not, List, [], ◌∷◌, ◌++◌, length, Option, Some, None, refl, sym, ap, ◌∙◌, slice_get, is_some}, lemmas.Bool.false≢true}, specs.Option.option_map}
-use Rattle.std.proofs.Common.{arith}
-use Rattle.exec_base.specs.Slab.{value_at}
-use Rattle.exec_outcomes.specs.{declared.outcome.Judged.Judged, Outcomes.{HasCome}}
-use Rattle.exec_request.specs.{Kept.{kept_of, seen_by}, Requests.{asked_of, cursor_of, hinted_of, deadline_of}, States.asks_cancel, declared.{request.Request.Request as Asking, results.WaiterState.{WaiterState}}}
-use Rattle.exec_ring.specs.declared.completion.Submission.{Submission}
-use Rattle.exec_waiters.{specs.{States.{waiter_at, takes_tick, tick_in, needs_permit}, declared.{waiter.Waiter.Waiter, waiter_id.WaiterId.WaiterId}}, proofs.Changes.entry_of}
-use Rattle.exec_driver.specs.Driving.{request_at, is_queued}
-use Rattle.exec_lists.specs.Lists.{first_of, is_among}
-use Rattle.exec_opens.specs.Opens.{OpenState}
-use Rattle.exec_machine.specs.{declared.state.{Request.Request, RequestPhase.RequestPhase}, Requests.is_enrolled, Tests.{is_gated, is_in_flight, is_resolved}}
-use Rattle.exec_moves.specs.declared.place.Service.{Service}
-use Rattle.exec_parts.specs.{declared.parts.{mail.Reply.Reply, record.Record.Record, shared.Shared.Shared, worker.Worker.Worker}, Records.number_in, Serving.{AreKnown, AreTagged, cancels_in, is_cancel}, View.driver_of}
-use Rattle.exec_invariants.specs.Submitting.{staged_with}
-use Rattle.exec_invariants.{specs.{Flown.IsPlain, Names.IsAlike, Submits.IsIdle}, proofs.{Going.GoesOn, Marking.mark_if, Staging.among_first}}
+use Rattle.exec_invariants.{specs.{Submitting.staged_with, Flown.IsPlain, Names.IsAlike, Submits.IsIdle}, proofs.{Words.{◌≡◌, ℕ, ◌+◌, ◌*◌, ◌<◌, ◌&&◌, Bool, true, false, not, List, [], ◌∷◌, ◌++◌, length, Option, Some, None, refl, sym, ap, ◌∙◌, slice_get, is_some, false≢true, option_map, arith, value_at, Judged, HasCome, kept_of, seen_by, asked_of, cursor_of, hinted_of, deadline_of, asks_cancel, Asking, WaiterState, Submission, waiter_at, takes_tick, tick_in, needs_permit, Waiter, WaiterId, entry_of, request_at, is_queued, first_of, is_among, OpenState, Request, RequestPhase, is_enrolled, is_gated, is_in_flight, is_resolved, Service, Reply, Record, Shared, Worker, number_in, AreKnown, AreTagged, cancels_in, is_cancel, driver_of}, Going.GoesOn, Marking.mark_if, Staging.among_first}}
 
 -- ITS PHASE
 
@@ -117,8 +103,7 @@ module _ {B : Type 0} (v : Service) (w : Worker) (s : Shared B) (idle : IsIdle v
       dateless r.0.shown.operation.deadline
       (λ some.
       let takes = takes_by it.state parts.1 (tickless (driver_of w).wheel.start (driver_of w).wheel.tick (tick_in it.state) (sym a.timer ∙ untimed)) in
-      let among = idle.sound.flown.enrolling id it live takes (ap is_some (sym a.deadline) ∙ some) in
-      false≢true (ap (is_among id) (sym idle.enrolments) ∙ among)) in
+      false≢true (ap (is_among id) (sym idle.enrolments) ∙ (idle.sound.flown.enrolling id it live takes (ap is_some (sym a.deadline) ∙ some)))) in
       grind (arith, it, r.0, live, r.1, r.2, r.3, parts.0, parts.1, parts.2, queued_phase, r.0.shown.phase, a.flying, a.open_still, a.permit, enrolled_by, r.0.shown, r.0.shown.timer, r.0.shown.operation.deadline, none)
 
   pub starts_first : Starts w s id

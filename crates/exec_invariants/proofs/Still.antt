@@ -1,9 +1,5 @@
 -- A step that is no act, for the plans that all tasks perform.
-use Rattle.std.proofs.{Common.{◌≡◌, ⊎_elim, ℕ, ◌<◌, List, length, get_or, Option, None, Some, sym, subst, ◌∙◌, slice_get}, lemmas.{Bool.false≢true, Option.{slice_get_within, slice_get-get_or}}}
-use Rattle.exec_task.specs.declared.body.Said.{Said}
-use Rattle.exec_machine.specs.{declared.event.Event.Event, Progress.Plan}
-use Rattle.exec_parts.specs.{declared.parts.{shared.Shared.Shared, task_slot.TaskSlot.TaskSlot, worker.Worker.Worker}, Spots.Spot}
-use Rattle.exec_invariants.specs.{Acting.{Performs, StepsOf, StepsWith}, Hearing.Hears, Works.Steps}
+use Rattle.exec_invariants.{specs.{Acting.{Performs, StepsOf, StepsWith}, Hearing.Hears, Works.Steps}, proofs.Words.{◌≡◌, ⊎_elim, ℕ, ◌<◌, List, length, get_or, Option, None, Some, sym, subst, ◌∙◌, slice_get, false≢true, slice_get_within, slice_get-get_or, Said, Event, Plan, Shared, TaskSlot, Worker, Spot}}
 
 module _ {B L : Type 0} (left : B → L) (runs : L → Plan → Option ℕ → Type 0) (holds : L → Option Said → List ℕ) (spot : L → Option Said → Spot) where
   pub performs_still : (p : Plan) (slot slot' : TaskSlot B) → Hears slot slot' → Performs left runs holds p slot → Performs left runs holds p slot'

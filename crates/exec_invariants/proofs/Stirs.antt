@@ -1,10 +1,5 @@
 -- A task wakes an ordinary task, or itself: what holds then, and what the step is to the machine.
-use Rattle.std.proofs.{Common.{◌≡◌, ◌≢◌, inr, ℕ, zero, suc, ◌+◌, ◌&&◌, arith, Bool, true, false, Contains, List, length, map, Option, Some, None, refl, sym, ap, subst, ◌∙◌, option_to_list, slice_get, slice_set, if◌then◌else◌}, lemmas.{Bool.{false≢true, eq-eqb}, List.map-set}}
-use Rattle.exec_task.specs.{Phases.{runnable_of, woken as cell_woken, is_idle as is_cell_idle}, declared.{body.{Said.Said}, runnable.Runnable.Runnable, task.Phase.Phase}}
-use Rattle.exec_machine.specs.{Choice.{Choice.Pays, Payer.ByAct}, declared.{config.ScriptWord.ScriptWord, event.Event.TheVariants.Wake, state.{TaskPhase.TaskPhase, Waiting.Waiting}}, Progress.Plan, Same.is_number, Tasks.{after_wake, after_waking_word, is_woken_here}, Tests.is_idle, Words.{acts, asks_wake, asks_yield, next_word}, World.{Common, Task, task_of}}
-use Rattle.exec_moves.specs.{Callback.{is_of_pool, to_queue}, declared.{handing.{AfterPush.AfterPush}, place.{InPoll.InPoll, Place.Place}}, Move.move_wake, Seen.{polls_at}, Send.wake_task, State.{Desk, Moved, Things, goes}}
-use Rattle.exec_parts.{specs.{Roles.is_pool, Tests.first_push_of, declared.parts.{shared.Shared.Shared, task_slot.TaskSlot.TaskSlot, worker.Worker.Worker}, Pooled.woken_slot, Spots.Spot, View.{Views, common_of, desk_of, own_of, task_seen, things_with, visible, with_view}}, proofs.Facts.{by_number, or_left, same_Some, set_elsewhere, set_there}}
-use Rattle.exec_invariants.{specs.{Drained.IsBefore, Holding.holder_of, Places.{claims_at, clears_at, hands_on_at, has_count_at, in_poll_of, is_pooled_at, is_published_at, one_if, polled_in, removes_at, step_of_poll}, Sound.{HasGuest, IsGuest, IsInHand, IsResting, Serves, SoundAt, Stands, Stops}, Whole.{HasOne, is_number as is_counted, runnables_in}, Works.{Beside, Suits, Works}}, proofs.{Acting.{acts_so, by_word, me_at}, Cells.{complete_woken, idle_seen, polled_woken, woken_seen}, PoolKept.unremoved, Slots.{Balances, before_for, spares_slot, task_there, whole_slot}, SlotTasks.{IsAfter, Keeps, Tasked, homes_set, resting_set, sound_tasked}, Turning.view_found}}
+use Rattle.exec_invariants.{specs.{Drained.IsBefore, Holding.holder_of, Places.{claims_at, clears_at, hands_on_at, has_count_at, in_poll_of, is_pooled_at, is_published_at, one_if, polled_in, removes_at, step_of_poll}, Sound.{HasGuest, IsGuest, IsInHand, IsResting, Serves, SoundAt, Stands, Stops}, Whole.{HasOne, is_number as is_counted, runnables_in}, Works.{Beside, Suits, Works}}, proofs.{Words.{◌≡◌, ◌≢◌, inr, ℕ, zero, suc, ◌+◌, ◌&&◌, arith, Bool, true, false, Contains, List, length, map, Option, Some, None, refl, sym, ap, subst, ◌∙◌, option_to_list, slice_get, slice_set, if◌then◌else◌, false≢true, eq-eqb, map-set, runnable_of, cell_woken, is_cell_idle, Said, Runnable, Phase, Pays, ByAct, ScriptWord, Wake, TaskPhase, Waiting, Plan, is_number, after_wake, after_waking_word, is_woken_here, is_idle, acts, asks_wake, asks_yield, next_word, Common, Task, task_of, is_of_pool, to_queue, AfterPush, InPoll, Place, move_wake, polls_at, wake_task, Desk, Moved, Things, goes, is_pool, first_push_of, Shared, TaskSlot, Worker, woken_slot, Spot, Views, common_of, desk_of, own_of, task_seen, things_with, visible, with_view, by_number, or_left, same_Some, set_elsewhere, set_there}, Acting.{acts_so, by_word, me_at}, Cells.{complete_woken, idle_seen, polled_woken, woken_seen}, PoolKept.unremoved, Slots.{Balances, before_for, spares_slot, task_there, whole_slot}, SlotTasks.{IsAfter, Keeps, Tasked, homes_set, resting_set, sound_tasked}, Turning.view_found}}
 
 -- what a hand has
 pub only : (x y : Runnable) → Contains (option_to_list (Some y)) x → x ≡ y
@@ -76,8 +71,7 @@ module _ {B : Type 0} where
         hand = lead.hands;
         genuine = λ r has.
             let is : r ≡ runnable_of slot.cell = lead.genuine r has in
-            let at : r.task.0 ≡ u = ap (λ x. x.task.0) is ∙ ap (λ n. n.0) number in
-            record { slot = slot'; there = ap (slice_get (slice_set tasks u slot')) at ∙ found; ordinary = ordinary; of_it = is };
+            record { slot = slot'; there = ap (slice_get (slice_set tasks u slot')) (ap (λ x. x.task.0) is ∙ ap (λ n. n.0) number) ∙ found; ordinary = ordinary; of_it = is };
         guest = subst (λ o. HasGuest o (step_of_poll q) w.index w.root (slice_set tasks u slot')) (sym lead.polls) (subst (λ x. HasGuest (Some t) x w.index w.root (slice_set tasks u slot')) (sym lead.step) guest);
         resting = resting_set tasks u slot slot' there (λ home unpolled. rests_woken slot (sound.resting u slot there ordinary (sym (polled_woken slot.cell.phase) ∙ unpolled))) sound.resting;
         stops = subst (λ o. Stops o (step_of_poll q) w.index (slice_set tasks u slot') s.requests.items s.sleepers.items) (sym lead.polls) (subst (λ x. Stops (Some t) x w.index (slice_set tasks u slot') s.requests.items s.sleepers.items) (sym lead.step) (λ o found_t. tt));
@@ -102,8 +96,7 @@ module _ {B : Type 0} where
   -- who polls an ordinary task hasn't passed the barrier
   before_woken : (t u : ℕ) (q : Place) (w : Worker) (s : Shared B) (slot : TaskSlot B) → SoundAt (Place.Poll t InPoll.Act) w s → slice_get s.tasks.items u ≡ Some slot → polls_at q ≡ Some t → slot.home ≡ None → polls_at q ≡ Some u → IsBefore w.index s.seats.items
   before_woken t u q w s slot sound there polls home its =
-      let same : t ≡ u = same_Some t u (sym polls ∙ its) in
-      before_for t InPoll.Act w s slot sound (ap (slice_get s.tasks.items) same ∙ there) home
+      before_for t InPoll.Act w s slot sound (ap (slice_get s.tasks.items) (same_Some t u (sym polls ∙ its)) ∙ there) home
 
   -- what is sound then, and what others keep
   pub record Stirs (q : Place) (h : Option Runnable) (w : Worker) (s s' : Shared B) : Type 0 where

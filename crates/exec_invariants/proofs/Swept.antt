@@ -1,12 +1,5 @@
 -- The ring of a driver after a reaping, and after wakes were raised.
-use Rattle.std.{proofs.{Common.{◌≡◌, ℕ, zero, suc, ◌+◌, ◌≤◌, ◌==◌, ◌&&◌, ◌||◌, Bool, true, false, not, List, [], ◌∷◌, ◌++◌, map, filter, Option, Some, None, refl, sym, ap, ◌∙◌, arith, nat_lt, replicate, if◌then◌else◌}, lemmas.{Bool.{false≢true, Decides.nat_tests}, List.append_assoc}}, specs.List.flat_map}
-use Rattle.std.proofs.Math.Bool.{or-true}
-use Rattle.exec_ring.specs.{Completions.{wake_completion}, Kernels.{has_none, is_quiet, reaped, with_wake}, Rings.{RingState, completions, spelled}, declared.completion.{Completion.Completion, Posted.Posted}}
-use Rattle.exec_driver.specs.{Driving.Driving, Steps.{swept, with_landings}}
-use Rattle.exec_machine.specs.Tests.{is_empty}
-use Rattle.exec_moves.specs.State.{dropped, is_dropped, others_left, told_left}
-use Rattle.exec_parts.specs.{declared.parts.mail.Reply.Reply, Pooled.with_raises, View.{trailing, trails_wake, behind_end, wake_poll_in, raised_times}}
-use Rattle.exec_invariants.{specs.{Flown.{polls_in, ends_in, IsPolled}, Places.one_if}, proofs.{Behind.{is_op, after_controls, armed_through, armed_through_is, dropped_first, ended_after, ends_after, first_is, none_left, ops_after, reaped_armed, reaped_ended, reaped_ends, reaped_others, reaped_told}, Woken.{Raises, one_most, raise_polled, raise_same, raise_shown, raises_both, raises_none}, WokenEntered.ended_some, WokenSwept.{first_there, sweeps}}}
+use Rattle.exec_invariants.{specs.{Flown.{polls_in, ends_in, IsPolled}, Places.one_if}, proofs.{Words.{◌≡◌, ℕ, zero, suc, ◌+◌, ◌≤◌, ◌==◌, ◌&&◌, ◌||◌, Bool, true, false, not, List, [], ◌∷◌, ◌++◌, map, filter, Option, Some, None, refl, sym, ap, ◌∙◌, arith, nat_lt, replicate, if◌then◌else◌, false≢true, nat_tests, append_assoc, flat_map, or-true, wake_completion, has_none, is_quiet, reaped, with_wake, RingState, completions, spelled, Completion, Posted, Driving, swept, with_landings, is_empty, dropped_from as dropped, is_dropped, others_left, told_left, Reply, with_raises, trailing, trails_wake, behind_end, wake_poll_in, raised_times}, Behind.{is_op, after_controls, armed_through, armed_through_is, dropped_first, ended_after, ends_after, first_is, none_left, ops_after, reaped_armed, reaped_ended, reaped_ends, reaped_others, reaped_told}, WokenEntered.{Raises, one_most, raise_polled, raise_same, raise_shown, raises_both, raises_none, ended_some}, WokenSwept.{first_there, sweeps}}}
 
 -- what is dropped with the end of the wake poll is all that stood of that
 balanced : (drop : Bool) (e : Option ℕ) (cs : List Completion) (k : ℕ) (b a : Bool) → behind_end cs ≡ e → (drop ≡ true → (n : ℕ) × (e ≡ Some n)) → k + (one_if b + ends_in cs) ≡ one_if a
@@ -42,12 +35,11 @@ module _ {S F : Type 0} where
       → d'.armed ≡ (d.armed && not (is_dropped (map f cs) (behind_end (completions d.ring)))) → IsPolled d.ring d.armed → RingAfter f d d' cs
   ring_by f d d' cs ys shape left landed others told ended ends armed polled =
       let xs = completions d.ring in
-      let drop = is_dropped (map f cs) (behind_end xs) in
       let poll : wake_poll_in d'.ring ≡ dropped (map f cs) (wake_poll_in d.ring) = grind (arith, shape, left, told, ended) in
       let polled_so : IsPolled d'.ring d'.armed =
       ap (λ r. polls_in r.staged + (one_if r.armed + ends_in (completions d'.ring))) shape
       ∙ ap (λ n. polls_in d.ring.staged + (one_if d.ring.armed + n)) (ap ends_in left ∙ ends)
-      ∙ balanced drop (behind_end xs) xs (polls_in d.ring.staged) d.ring.armed d.armed refl (some_end (map f cs) (behind_end xs)) polled
+      ∙ balanced (is_dropped (map f cs) (behind_end xs)) (behind_end xs) xs (polls_in d.ring.staged) d.ring.armed d.armed refl (some_end (map f cs) (behind_end xs)) polled
       ∙ sym (ap one_if armed) in
       assumption (ap (λ r. r.size) shape, ap (λ r. r.staged) shape, ap (λ r. r.flying) shape, ap (λ r. r.busy) shape, ap (filter is_op) left ∙ landed, ap (trailing 0) left ∙ others, poll, armed, polled_so)
 
@@ -80,9 +72,8 @@ module _ {S F : Type 0} where
       let to1 = sweeps d in
       let to2 = sweeps second in
       let r1 = (swept d).ring in
-      let there = first_there r1.posted r1 c it.rest refl (to1.left ∙ it.first) it.operates in
       let ring2 : second.ring ≡ reaped r1 = ring ∙ ap (λ x. reaped x.ring) like1 in
-      let left2 : completions second.ring ≡ it.rest = ap completions ring2 ∙ there.left in
+      let left2 : completions second.ring ≡ it.rest = ap completions ring2 ∙ (first_there r1.posted r1 c it.rest refl (to1.left ∙ it.first) it.operates).left in
       let again : d'.ring ≡ (swept second).ring = ap (λ x. x.ring) like2 in
       let shape : d'.ring ≡ record d.ring { posted = d'.ring.posted; wakes = d'.ring.wakes } = grind (arith, again, to2.shape, ring2, to1.shape) in
       ring_by f d d' cs (after_controls it.rest) shape

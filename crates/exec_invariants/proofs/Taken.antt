@@ -1,10 +1,5 @@
 -- A slot that takes a value, a list with one more at its end, and the number of what took the slot.
-use Rattle.std.{proofs.{Common.{◌≡◌, ◌≢◌, ◌⊎◌, ℕ, zero, suc, ◌+◌, ◌<◌, ◌≤◌, Bool, true, false, cond, count_by, List, [], ◌∷◌, ◌++◌, length, Option, Some, None, IsSome, refl, sym, ap, subst, ◌∙◌, arith, inl, inr, is_some, slice_get, slice_index_or, slice_set}, lemmas.{Bool.{false≢true, eq-eqb, Decides.eqb_tells}, List.{get_or_past, length-append, length-set, set_past, Folds.list_any-append, Sums.{sum_by-set, sum_by_push}}, Option.{get_or_from_slice_get, unwrap_or-slice_get}}}, specs.{List.AllByRecursion, Prelude.unwrap_or}}
-use Rattle.exec_base.{specs.{Slab.{Slab, slot_at, value_at, value_in, generation_of, next_generation, filled, inserted, next_id, IsPast, TakesId}, declared.slab.{Id.Id, Slot.{Slot, TheVariants.{Live, Vacant, Retired}}}}, proofs.Slots.{Changed, Changed-push, Changed-set, NextIs, id_cases, ltb_tells, some_of_if}}
-use Rattle.exec_waiters.specs.declared.waiter_id.WaiterId.{WaiterId}
-use Rattle.exec_driver.specs.Driving.{Driving}
-use Rattle.exec_lists.specs.Lists.{is_among, is_same}
-use Rattle.exec_parts.{specs.{declared.parts.{mail.Reply.Reply, record.Record.Record}, Records.number_in, Serving.{AreKnown}}, proofs.Facts.{same_self, or_right, or_left}}
+use Rattle.exec_invariants.proofs.Words.{◌≡◌, ◌≢◌, ◌⊎◌, ℕ, zero, suc, ◌+◌, ◌<◌, ◌≤◌, Bool, true, false, cond, count_by, List, [], ◌∷◌, ◌++◌, length, Option, Some, None, IsSome, refl, sym, ap, subst, ◌∙◌, arith, inl, inr, is_some, slice_get, slice_index_or, slice_set, false≢true, eq-eqb, eqb_tells, get_or_past, length-append, length-set, set_past, list_any-append, sum_by-set, sum_by_push, get_or_from_slice_get, unwrap_or-slice_get, AllByRecursion, unwrap_or, Slab, slot_at, value_at, value_in, generation_of, next_generation, filled, inserted, next_id, IsPast, TakesId, Id, Slot, Live, Vacant, Retired, Changed, Changed-push, Changed-set, NextIs, id_cases, ltb_tells, some_of_if, WaiterId, Driving, is_among, is_same, Reply, Record, number_in, AreKnown, same_self, or_right, or_left}
 
 -- LISTS
 
@@ -137,8 +132,7 @@ module _ {T : Type 0} where
   takes_by s s' v id next new first same past =
       takes s s.vacant v id next new (λ i rest lists.
       let at : i ≡ id.index = ap (λ (x : Id). x.index) (some_of_if _ _ _ (subst (λ l. NextIs s l id) lists next)) in
-      let within = slot_there s s' id first (λ beyond. same i rest lists (omega (arith, beyond, at))) new past in
-      omega (arith, within, at))
+      omega (arith, slot_there s s' id first (λ beyond. same i rest lists (omega (arith, beyond, at))) new past, at))
 
   pub takes_room : (s s' : Slab T) (id : Id) (v : T) (room : ℕ) → Takes s s' id v → Takes s (record s' { room = room }) id v
   takes_room s s' id v room t = record { empty = t.empty; unused = t.unused; changed = record { here = t.changed.here; there = t.changed.there }; within = t.within; longer = t.longer; counts = t.counts }

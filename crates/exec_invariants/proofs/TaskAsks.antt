@@ -1,11 +1,5 @@
 -- A POLL GOES ON once it has sent a message to another worker: by a signal to that where it is asked for, or at once.
-use Rattle.std.proofs.{Common.{◌≡◌, ◌≢◌, ◌⊎◌, inl, inr, ℕ, ◌<◌, ◌≤◌, Bool, true, false, List, length, map, Option, Some, None, refl, sym, ap, subst, ◌∙◌, arith, slice_get, slice_set, if◌then◌else◌}, lemmas.{Bool.false≢true, List.length-set, Option.{get_or_from_slice_get, slice_get_within}}}
-use Rattle.exec_words.specs.Queue.{tail_of}
-use Rattle.exec_task.specs.declared.body.Said.{Said}
-use Rattle.exec_machine.specs.{declared.{config.Configuration.Configuration, event.Event.{Event, TheVariants.{Closed, Send}}, state.MailMessage.MailMessage}, After.{own_after, common_after}, Allowed.allowed, Choice.Choice.Plain, Mail.posted as seat_posted, Progress.Plan, Tests.AllTrue, World.{no_seat, seat_of}}
-use Rattle.exec_moves.specs.{declared.{handing.{AfterSend.AfterSend, AfterSignal.AfterSignal, InSignal.InSignal}, place.{InPoll.InPoll, Place.Place}}, Move.move_at, Parts.after_send, Send.{after_posting, asks as asks_box, posted, send_message, sent}, State.{Desk, Things, goes}, Thing.{mailbox_of, set_mailbox, with_mailbox}}
-use Rattle.exec_parts.{specs.{declared.parts.{seat.Seat.Seat as Chair, shared.Shared.Shared, task_slot.TaskSlot.TaskSlot, worker.Worker.Worker}, Pooled.asks_if_sent, Spots.Spot, View.{Views, Visible, common_of, desk_of, inbox_at, own_of, polls_seen, queue_at, seat_seen, seats_seen, things_with, visible, with_view, word_at}}, proofs.Facts.{by_number, set_elsewhere, set_there}}
-use Rattle.exec_invariants.{specs.{Holding.Mail, Kinds.kind_of, Sound.{Aims, HasBatch, HasQueue, IsSeated, SoundAt, TellsPast, has_wakes_at}, Hearing.Hears, Spares.SparesChair, Whole.{Profile, with_worker}, Works.{Beside, Steps, Suits, Works}}, proofs.{Hearing.hears_so, Here.IsHere, HoldBeside.{Deals, Handles, Holds, beside_dealt}, HoldThings.Touches, LetterPosts.{IsLetter, asks_open, chair_open, seat_open, things_open}, Polling.home_mine, Seats.{chair_set, seat_there}, SparedRecord.there_within, Aside.{SameProfile, queue_of_chair, queues_set, seats_other}, PoolKept.{gate_spared, gates_set}, TaskDeals.{ComesFrom, Dealt, GoesOn, profile_here, sound_dealt}, Turning.{view_found, Fits, arrives, by_place, lower, of_kind, sound_on}}}
+use Rattle.exec_invariants.{specs.{Holding.Mail, Kinds.kind_of, Sound.{Aims, HasBatch, HasQueue, IsSeated, SoundAt, TellsPast, has_wakes_at}, Hearing.Hears, Spares.SparesChair, Whole.{Profile, with_worker}, Works.{Beside, Steps, Suits, Works}}, proofs.{Words.{◌≡◌, ◌≢◌, ℕ, ◌<◌, ◌≤◌, Bool, true, false, List, length, map, Option, Some, refl, sym, ap, subst, ◌∙◌, arith, slice_get, slice_set, if◌then◌else◌, false≢true, length-set, get_or_from_slice_get, slice_get_within, tail_of, Said, Configuration, Event, Closed, Send, MailMessage, own_after, common_after, allowed, Plain, seat_posted, Plan, AllTrue, no_seat, seat_of, AfterSend, AfterSignal, InSignal, InPoll, Place, move_at, after_send, after_posting, asks_box, posted, send_message, sent, Desk, Things, goes, mailbox_of, set_mailbox, with_mailbox, Chair, Shared, TaskSlot, Worker, asks_if_sent, Spot, Views, Visible, common_of, desk_of, inbox_at, own_of, polls_seen, queue_at, seat_seen, seats_seen, things_with, visible, with_view, word_at, set_elsewhere, set_there}, Hearing.hears_so, Here.IsHere, HoldBeside.{Deals, Handles, Holds, beside_dealt}, HoldThings.Touches, LetterPosts.{IsLetter, asks_open, chair_open, seat_open, things_open}, Polling.home_mine, Seats.{chair_set, seat_there}, SparedRecord.there_within, Aside.{SameProfile, queue_of_chair, queues_set, seats_other}, PoolKept.{gate_spared, gates_set}, TaskDeals.{ComesFrom, Dealt, GoesOn, profile_here, sound_dealt, here_or_none}, Turning.{view_found, Fits, arrives, by_place, lower, of_kind, sound_on}}}
 
 -- where such a message leads
 pub record LeadsBy (t : ℕ) (y : InPoll) (b : AfterSend) : Type 0 where
@@ -52,14 +46,13 @@ module _ {B : Type 0} where
       let own : slice_get s'.seats.items w.index ≡ Some seat = ap (λ cs. slice_get cs w.index) posts.set ∙ set_elsewhere s.seats.items j w.index chair' (λ e. posts.other (sym e)) ∙ sound.seated.there in
       let back : (c : Chair) → slice_get s'.seats.items w.index ≡ Some c → slice_get s.seats.items w.index ≡ Some c = λ c at. sym (set_elsewhere s.seats.items j w.index chair' (λ e. posts.other (sym e))) ∙ ap (λ cs. slice_get cs w.index) (sym posts.set) ∙ at in
       let same : kind_of q' ≡ kind_of (Place.Poll t y) = kinds asks in
-      let it = of_kind (Place.Poll t y) q' w s sound (lower w.role (Place.Poll t y) q' same) in
       let fits : Fits q' w s s'.seats.items = record {
         seated = subst (λ a. IsSeated w.index a s.config.workers s'.seats.items) (sym (ap (λ k. k.armed) same)) (record { many = subst (λ n. s.config.workers ≤ n) (sym many) sound.seated.many; seat = seat; there = own; pool = sound.seated.pool; unarmed = sound.seated.unarmed; mail = sound.seated.mail });
         queue = λ c at. queue_there asks c (sound.queue c (back c at));
         aims = aims_there asks (slice_get_within s'.seats.items j chair' (ap (λ cs. slice_get cs j) posts.set ∙ set_there s.seats.items j chair' chair posts.there));
         batch = batch_there asks sound.batch;
         batch_place = λ c at. sound.batch_place c (back c at);
-        phased = λ c at. it.phased c (back c at);
+        phased = λ c at. (of_kind (Place.Poll t y) q' w s sound (lower w.role (Place.Poll t y) q' same)).phased c (back c at);
       } in
       sound_on (Place.Poll t y) w w' s s' sound (by_place w w' s.clock sound.time refl) (subst (λ (z : Shared B). z ≡ record s { seats = z.seats; idle = z.idle; global = z.global }) (sym kept) refl) (omega (arith, many))
       (arrives (Place.Poll t y) q' w w' s s' sound (lower w.role (Place.Poll t y) q' same) (λ h. sound.quiet (wakes_there asks h)) (record { root_ready = refl; hand = refl; loot = refl; searching = refl }) fits)
@@ -91,7 +84,6 @@ module _ {B : Type 0} where
       → Touches s (record s { requests = mid.requests; sleepers = mid.sleepers }) → Dealt y w.index it.slot slot' mid.requests.items mid.sleepers.items → ((others : Profile) → Holds (with_worker others w) s → Holds (with_worker others w) s')
       → SoundAt (led_to t y b j (asks_if_sent m chair.mailbox)) (record w { place = led_to t y b j (asks_if_sent m chair.mailbox) }) s' × Beside w s (record w { place = led_to t y b j (asks_if_sent m chair.mailbox) }) s'
   asked_leaves x y b t j m letter w s mid s' slot' chair open_box from on by sound it midkept items kept posts touches to holds =
-      let here_or_none : (it.slot.home ≡ Some w.index) ⊎ (it.slot.home ≡ None) = by_number t w.root (λ apart. inr (it.ordinary apart).1) (λ own. inl (it.root own).1) in
       let asks : Bool = asks_if_sent m chair.mailbox in
       let q' : Place = led_to t y b j asks in
       let w1 : Worker = record w { place = q' } in
@@ -100,13 +92,12 @@ module _ {B : Type 0} where
       let all : s' ≡ s1 = kept ∙ ap (λ (z : Shared B). record z { seats = s'.seats }) midkept in
       let mid_seats : mid.seats ≡ s.seats = ap (λ (z : Shared B). z.seats) midkept in
       let handles : Handles t s s1 it.slot slot' = record { there = it.there; items = items; cell = to.cell; home = to.home; cleared = to.cleared; poller = to.poller } in
-      let profile = profile_led x y b t j w by asks (profile_here x y t w from on sound.here) in
       let gates = gates_set j s.seats.items s'.seats.items chair chair' posts.set posts.there (gate_spared chair chair' posts.spares) in
       let queues = ap (map queue_of_chair) posts.set ∙ queues_set s.seats.items j chair chair' posts.there posts.queue in
-      let deals : Deals t w w1 s s1 it.slot slot' = assumption (handles, profile, gates, queues, touches) in
+      let deals : Deals t w w1 s s1 it.slot slot' = assumption (handles, profile_led x y b t j w by asks (profile_here x y t w from on sound.here), gates, queues, touches) in
       let sound2 : SoundAt (Place.Poll t y) (record w { place = Place.Poll t y }) mid = sound_dealt x y t w s mid slot' from on sound it midkept items touches to in
       let sound3 : SoundAt q' w1 s' = sound_posted t y b j asks (record w { place = Place.Poll t y }) mid s' chair chair' by on sound2 kept (subst (λ cs. Posts w.index j cs s'.seats.items chair chair') (ap (λ z. z.items) (sym mid_seats)) posts) in
-      let mine : (k : ℕ) → it.slot.home ≡ Some k → k ≡ w.index = home_mine w.index it.slot.home here_or_none in
+      let mine : (k : ℕ) → it.slot.home ≡ Some k → k ≡ w.index = home_mine w.index it.slot.home (here_or_none x t w s it) in
       let tails : tail_of chair.queue ≤ tail_of chair'.queue = omega arith in
       let beside : Beside w s w1 s1 = beside_dealt t w w1 s s1 it.slot slot' deals it.poller mine sound.homes touches (seats_other w.index j s.seats.items s'.seats.items chair chair' posts.set posts.there tails posts.spares)
       (λ others old. subst (Holds (with_worker others w)) all (holds others old)) in

@@ -1,11 +1,5 @@
 -- A POLL GOES ON, by a slot of the same cell: the task took, or waits for, or let go of something, and nobody else is concerned.
-use Rattle.std.proofs.{Common.{◌≡◌, ◌≢◌, ◌⊎◌, inl, inr, ℕ, true, false, List, Option, Some, None, IsSome, refl, sym, ap, subst, ◌∙◌, slice_get, slice_set}, lemmas.Bool.false≢true}
-use Rattle.std.proofs.Common.{arith}
-use Rattle.exec_task.specs.{Phases.is_polled, declared.{body.Said.Said, task.{Task.Task as TaskCell}}}
-use Rattle.exec_machine.specs.{declared.{event.Event.Event}, Progress.Plan}
-use Rattle.exec_moves.specs.{declared.place.{InPoll.InPoll, Place.Place}, Seen.{polls_in}}
-use Rattle.exec_parts.{specs.{declared.parts.{record.Record.Record, shared.Shared.Shared, sleeping.SleeperRecord.SleeperRecord, task_slot.TaskSlot.TaskSlot, worker.Worker.Worker}, Spots.Spot, View.Views}, proofs.Facts.{by_number, same_Some, set_there}}
-use Rattle.exec_invariants.{specs.{Hearing.Hears, Places.{begins_at, hands_on_at, is_pooled_at, drops_at}, Sound.{HasGuest, IsGuest, IsInHand, SoundAt, Stops, StopsIn, WaitsAt, acts_next, is_told}, Whole.{Profile, with_worker}, Works.{Beside, Steps, Suits, Works}}, proofs.{Aside.{SameProfile, seats_same}, Hearing.hears_so, Here.{IsHere}, HoldBeside.{Deals, Holds, beside_dealt}, HoldThings.{Touches, sound_touched}, Polling.{home_mine, on_in_poll}, SlotTasks.{IsAfter, Sits, Tasked, guest_tasked, none_in, root_tasked, sound_tasked}}}
+use Rattle.exec_invariants.{specs.{Hearing.Hears, Places.{begins_at, hands_on_at, is_pooled_at, drops_at}, Sound.{HasGuest, IsGuest, IsInHand, SoundAt, Stops, StopsIn, WaitsAt, acts_next, is_told}, Whole.{Profile, with_worker}, Works.{Beside, Steps, Suits, Works}}, proofs.{Words.{◌≡◌, ◌≢◌, ◌⊎◌, inl, inr, ℕ, true, false, List, Option, Some, None, IsSome, refl, sym, ap, subst, ◌∙◌, slice_get, slice_set, false≢true, arith, is_polled, Said, TaskCell, Event, Plan, InPoll, Place, polls_in, Record, Shared, SleeperRecord, TaskSlot, Worker, Spot, Views, by_number, same_Some, set_there}, Aside.{SameProfile, seats_same}, Hearing.hears_so, Here.IsHere, HoldBeside.{Holds, beside_dealt}, HoldThings.{Touches, sound_touched}, Polling.{home_mine, on_in_poll}, SlotTasks.{IsAfter, Tasked, guest_tasked, none_in, root_tasked, sound_tasked}}}
 
 -- where it goes on: it acts next, or its poll ends
 pub record GoesOn (t : ℕ) (y : InPoll) : Type 0 where
@@ -60,15 +54,13 @@ module _ {B : Type 0} where
       let slot = it.slot in
       let there : slice_get s.tasks.items w.root ≡ Some slot = subst (λ n. slice_get s.tasks.items n ≡ Some slot) same it.there in
       let old = (it.root same).0 in
-      let sits : Sits q w w.root_ready s slot slot' = grind arith in
-      subst (λ n. Tasked q w w.root_ready None s (slice_set s.tasks.items n slot')) (sym same) (root_tasked t x q w w.root_ready s slot slot' sound sits) in
+      subst (λ n. Tasked q w w.root_ready None s (slice_set s.tasks.items n slot')) (sym same) (root_tasked t x q w w.root_ready s slot slot' sound (grind arith)) in
       let other : t ≢ w.root → Tasked q w w.root_ready None s (slice_set s.tasks.items t slot') = λ apart.
-      let slot = it.slot in
       let old = (it.ordinary apart).0 in
-      let found = set_there s.tasks.items t slot' slot it.there in
+      let found = set_there s.tasks.items t slot' it.slot it.there in
       let cancelled = ap (λ (c : TaskCell B). c.cancelled) to.cell ∙ old.cancelled ∙ sym to.cleared in
       let guest : IsGuest y w.index slot' = assumption (to.home ∙ old.ordinary, polled, to.poller ∙ old.poller, cancelled, to.waits, to) in
-      guest_tasked t x q w None s slot slot' sound (record {
+      guest_tasked t x q w None s it.slot slot' sound (record {
         apart = apart;
         there = it.there;
         keeps = record { home = to.home; number = number; owner = ap (λ (c : TaskCell B). c.owner) to.cell };
@@ -77,8 +69,7 @@ module _ {B : Type 0} where
         polls = λ n is same. apart (same_Some t n (sym (on.polls) ∙ is) ∙ same);
         guest = subst (λ o. HasGuest o y w.index w.root (slice_set s.tasks.items t slot')) (sym (on.polls)) (λ no. (slot', found, guest));
         stops = subst (λ o. Stops o y w.index (slice_set s.tasks.items t slot') s.requests.items s.sleepers.items) (sym (on.polls)) (λ o at.
-            let is : slot' ≡ o = same_Some slot' o (sym found ∙ at) in
-            subst (λ (z : TaskSlot B). StopsIn y w.index z.waiting s.requests.items s.sleepers.items) is to.stops);
+            subst (λ (z : TaskSlot B). StopsIn y w.index z.waiting s.requests.items s.sleepers.items) (same_Some slot' o (sym found ∙ at)) to.stops);
         rests = λ unpolled. absurd (false≢true (sym unpolled ∙ polled));
       }) in
       by_number t w.root other root
@@ -108,24 +99,22 @@ module _ {B : Type 0} where
   dealt_leaves x y t w s s' slot' from on sound it kept items touches to holds =
       let w1 : Worker = record w { place = Place.Poll t y } in
       let seats : s'.seats ≡ s.seats = ap (λ (z : Shared B). z.seats) kept in
-      let deals : Deals t w w1 s s' it.slot slot' = grind arith in
       let mine : (j : ℕ) → it.slot.home ≡ Some j → j ≡ w.index = home_mine w.index it.slot.home (here_or_none x t w s it) in (
         sound_dealt x y t w s s' slot' from on sound it kept items touches to,
-        beside_dealt t w w1 s s' it.slot slot' deals it.poller mine sound.homes touches (seats_same w.index s.seats.items s'.seats.items (ap (λ z. z.items) seats)) holds,
+        beside_dealt t w w1 s s' it.slot slot' (grind arith) it.poller mine sound.homes touches (seats_same w.index s.seats.items s'.seats.items (ap (λ z. z.items) seats)) holds,
       )
 
-module _ {B L : Type 0} (left : B → L) (spot : L → Option Said → Spot) where
-  -- THE WHOLE STEP, where no message is sent
-  pub dealt : (x y : InPoll) (t : ℕ) (w w' : Worker) (s s' : Shared B) (e : Event) (slot' : TaskSlot B) → ComesFrom t x → GoesOn t y → (sound : SoundAt (Place.Poll t x) w s) → (it : IsHere x t w s) → w' ≡ record w { place = Place.Poll t y }
-      → s' ≡ record s { tasks = s'.tasks; requests = s'.requests; sleepers = s'.sleepers } → s'.tasks.items ≡ slice_set s.tasks.items t slot'
-      → Touches s (record s { requests = s'.requests; sleepers = s'.sleepers }) → Dealt y w.index it.slot slot' s'.requests.items s'.sleepers.items → Hears it.slot slot'
-      → ((others : Profile) → Holds (with_worker others w) s → Holds (with_worker others w) s') → ((p : Plan) (vs : Views) → Suits p vs w s → Works left spot p vs w s e (record w { place = Place.Poll t y }) s') → Steps left spot w s e w' s'
-  dealt x y t w w' s s' e slot' from on sound it same kept items touches to hears holds works =
-      let leaves = dealt_leaves x y t w s s' slot' from on sound it kept items touches to holds in
-      let done : Steps left spot w s e (record w { place = Place.Poll t y }) s' = (
-        works,
-        leaves.0,
-        hears_so t it.slot slot' refl (ap (λ (z : Shared B). z.config) kept) it.there items hears,
-        leaves.1,
-      ) in
-      subst (λ v. Steps left spot w s e v s') (sym same) done
+-- THE WHOLE STEP, where no message is sent
+pub dealt : {B L : Type 0} (left : B → L) (spot : L → Option Said → Spot) (x y : InPoll) (t : ℕ) (w w' : Worker) (s s' : Shared B) (e : Event) (slot' : TaskSlot B) → ComesFrom t x → GoesOn t y → (sound : SoundAt (Place.Poll t x) w s) → (it : IsHere x t w s) → w' ≡ record w { place = Place.Poll t y }
+    → s' ≡ record s { tasks = s'.tasks; requests = s'.requests; sleepers = s'.sleepers } → s'.tasks.items ≡ slice_set s.tasks.items t slot'
+    → Touches s (record s { requests = s'.requests; sleepers = s'.sleepers }) → Dealt y w.index it.slot slot' s'.requests.items s'.sleepers.items → Hears it.slot slot'
+    → ((others : Profile) → Holds (with_worker others w) s → Holds (with_worker others w) s') → ((p : Plan) (vs : Views) → Suits p vs w s → Works left spot p vs w s e (record w { place = Place.Poll t y }) s') → Steps left spot w s e w' s'
+dealt {B} left spot x y t w w' s s' e slot' from on sound it same kept items touches to hears holds works =
+    let leaves = dealt_leaves x y t w s s' slot' from on sound it kept items touches to holds in
+    let done : Steps left spot w s e (record w { place = Place.Poll t y }) s' = (
+      works,
+      leaves.0,
+      hears_so t it.slot slot' refl (ap (λ (z : Shared B). z.config) kept) it.there items hears,
+      leaves.1,
+    ) in
+    subst (λ v. Steps left spot w s e v s') (sym same) done

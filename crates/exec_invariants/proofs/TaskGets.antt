@@ -1,17 +1,5 @@
 -- A POLLED TASK TAKES THE OUTPUT of a request of its worker's: by a look at what it waits for, or by an act.
-use Rattle.std.proofs.{Common.{◌≡◌, ◌⊎◌, inl, inr, ⊎_elim, ℕ, ◌+◌, ◌-◌, ◌≤◌, ◌==◌, ◌||◌, true, false, List, length, map, take, Option, Some, None, IsSome, option_map, refl, sym, ap, subst, ◌∙◌, arith, slice_get, slice_set}, lemmas.{Bool.{false≢true, eq-eqb}, List.{map-set}, Option.slice_get-map}}
-use Rattle.exec_base.specs.Slab.{removed, value_at}
-use Rattle.exec_outcomes.specs.declared.outcome.Outcome.{Outcome}
-use Rattle.exec_request.specs.declared.output.RequestOutput.{RequestOutput}
-use Rattle.exec_ring.specs.Rings.{completions}
-use Rattle.exec_waiters.specs.{Events.{taken, taken_from}, States.{waiter_at, waiter_of}, declared.waiter.Entry.{Entry, TheVariants.{Pending, Ready}}}
-use Rattle.exec_driver.specs.{Driving.Driving, Punctual.IsPunctual}
-use Rattle.exec_task.specs.declared.body.Said.{Said}
-use Rattle.exec_machine.specs.{After.{common_after, own_after}, declared.{event.Event.TheVariants.Got, state.{Forwarding.{Forwarding}, RequestPhase.TheVariants.Resolved, Waiting.Waiting}}, Choice.Choice.Plain, Progress.Plan, Same.is_number, Tasks.{after_taking, is_here, polls_waiting, without_newest}, Tests.{is_applied, is_resolved, is_resolved_with, is_unsent, waits_for_request}, Words.{acts, asks_await, newest_held, polled_task}, World.{Common, Task, request_of, task_of}}
-use Rattle.exec_moves.specs.{declared.place.{InPoll.InPoll, Place.Place}, Move.move_at, Poll.acts_on, Slots.vacated, State.Desk, Told.without_request}
-use Rattle.exec_parts.specs.{declared.parts.{mail.Reply.Reply, record.Record.Record, shared.Shared.Shared, task_slot.TaskSlot.TaskSlot, worker.Worker.Worker}, Awaits.newest_of, Phased.is_complete, Polls.unobserved, Records.number_in, Scripts.IsAnswered, Serving.{changed_at, changed_in}, Spots.Spot, View.{Views, common_of, desk_of, driver_of, numbers_of_passing, own_of, slots_seen, awaited_from, awaits_entry, task_seen, things_with, trailing, visible, with_view}}
-use Rattle.exec_invariants.{specs.{Holding.{Holder, IsHolding, awaited_in, box_of, holder_of, nap_of, thing_of}, HoldPlaces.{has_wakes_at}, Sound.{SoundAt, served_in}, Names.tellers, Whole.{Profile, hands_of, with_worker}, Works.{Beside, Suits, Works}}, proofs.{Here.{IsHere, going_on}, HoldBeside.Holds, HoldSteps.{IsNewest, thing_taken}, Keys.{name_in, names_changed, same_gates, same_opens}, LetRooted.{Rewaits, keeps_watched}, LetSlots.{slot_here, slot_here_is}, LetSlab.{one_held_less, other_entry, watched_gone, same_flying, same_pending, same_waiters}, Lined.{passing_same, opens_same}, Resolving.places_fewer, Seen.request_at, ServingHolds.KeepsBy, Serving.spares_one, Slots.task_there, Slotted.{awaited_removed, slots_vacated}, SparedRecord.there_within, TaskDeals.{ComesFrom, Dealt, acts as to_act}, TaskHears.{newest_split, resolved_self, thing_there}, TaskHomes.{Homes, IsFree, beside_goes, sound_goes}, TaskTakes.{holder_there, holders_one, no_wakes}, Turning.{set_found, view_found}, Watching.{Watched}}}
-use Rattle.exec_invariants.proofs.AsksEnds.{is_unsent_so}
+use Rattle.exec_invariants.{specs.{Holding.{awaited_in, holder_of}, HoldPlaces.has_wakes_at, Sound.{SoundAt, served_in}, Names.tellers, Whole.{Profile, hands_of, with_worker}, Works.{Beside, Suits, Works}}, proofs.{Words.{◌≡◌, ◌⊎◌, inl, inr, ⊎_elim, ℕ, ◌+◌, ◌-◌, ◌≤◌, ◌==◌, ◌||◌, true, false, length, map, take, Option, Some, None, IsSome, option_map, refl, sym, ap, subst, ◌∙◌, arith, slice_get, slice_set, false≢true, eq-eqb, map-set, slice_get-map, removed, value_at, Outcome, RequestOutput, completions, taken, taken_from, waiter_at, waiter_of, Entry, Pending, Ready, Driving, IsPunctual, Said, common_after, own_after, Got, Forwarding, Resolved, Waiting, Plain, Plan, is_number, after_taking, is_here, polls_waiting, without_newest, is_applied, is_resolved, is_resolved_with, is_unsent, waits_for_request, acts, asks_await, newest_held, polled_task, Common, Task, request_of, task_of, InPoll, Place, move_at, acts_on, vacated, Desk, without_request, Reply, Record, Shared, TaskSlot, Worker, newest_of, is_complete, unobserved, number_in, IsAnswered, changed_at, changed_in, Spot, Views, common_of, desk_of, driver_of, numbers_of_passing, own_of, slots_seen, awaited_from, awaits_entry, task_seen, things_with, trailing, visible, with_view}, Here.{IsHere, going_on}, HoldBeside.Holds, Keys.{name_in, names_changed, same_gates, same_opens}, LetRooted.keeps_watched, LetSlots.{slot_here, slot_here_is}, LetSlab.{one_held_less, other_entry, watched_gone, same_flying, same_pending, same_waiters}, Lined.{passing_same, opens_same}, Resolving.places_fewer, Seen.request_at, ServingHolds.KeepsBy, Serving.spares_one, Slots.task_there, Slotted.{awaited_removed, slots_vacated}, TaskDeals.{ComesFrom, Dealt, acts as to_act}, TaskHears.{resolved_self, holds_taken}, TaskHomes.{Homes, IsFree, beside_goes, sound_goes}, TaskTakes.no_wakes, Turning.{set_found, view_found}, Watching.Watched, AsksEnds.is_unsent_so}}
 
 -- its output is there
 pub record IsThere (k : ℕ) (r : Record) (w : Worker) : Type 0 where
@@ -19,7 +7,7 @@ pub record IsThere (k : ℕ) (r : Record) (w : Worker) : Type 0 where
   pub value : value_at (driver_of w).requests r.id.0 ≡ Some (Ready told)
   pub number : number_in w.names.requests.items r.id.0 ≡ k
 
-unsent_unapplied : (f : Forwarding) → is_unsent f ≡ true → is_applied f ≡ false
+pub unsent_unapplied : (f : Forwarding) → is_unsent f ≡ true → is_applied f ≡ false
 unsent_unapplied = grind arith
 
 abbrev desk_with : Worker → ℕ → Driving Reply Reply → Desk
@@ -72,8 +60,7 @@ module _ {B : Type 0} where
       by None is live named = absurd (false≢true (subst (λ o. IsSome o) is live))
       by (Some (Ready told)) is live named = record { told = told; value = is; number = named }
       by (Some (Pending it)) is live named =
-          let a = sound.named.alike r.id.0 it r (ap waiter_of is) (ap (slice_get s.requests.items) named ∙ at_k) in
-          absurd (false≢true (sym a.open_still ∙ over))
+          absurd (false≢true (sym (sound.named.alike r.id.0 it r (ap waiter_of is) (ap (slice_get s.requests.items) named ∙ at_k)).open_still ∙ over))
 
   -- WHAT HOLDS THEN of the worker's own
   pub gets_homes : (x : InPoll) (t k : ℕ) (w w' : Worker) (s s' : Shared B) (slot slot' : TaskSlot B) (r : Record) (output : RequestOutput) (outcome : Outcome) → SoundAt (Place.Poll t x) w s → TakesOwn x t k w w' s s' slot slot' r output outcome → r.shown.observed ≡ true → (there : IsThere k r w)
@@ -87,7 +74,6 @@ module _ {B : Type 0} where
       let zs = w.home.timers in
       let rs = s.requests.items in
       let ss = s.sleepers.items in
-      let left = w.home.deferred in
       let kk = number_in w.names.requests.items id in
       let v : Worker = record w { home = record w.home { driver = w'.home.driver } } in
       let s1 : Shared B = record s { requests = s'.requests } in
@@ -103,13 +89,10 @@ module _ {B : Type 0} where
       let rs1 = changed_at rs kk unobserved in
       let keeps : KeepsBy w d zs rs ss s = grind arith in
       let watched : Watched w.names d d' rs rs1 id r unobserved = watched_gone w.names d rs r told unobserved ready at_number small refl (λ over. refl) in
-      let to : Rewaits w.index w.names d d' zs left left rs rs1 ss id r unobserved watched keeps.named = grind arith in
       let pending = same_pending s0 id told ready in
-      let held = one_held_less s0 id told ready in
-      let less : tellers d'.requests zs + 64 ≤ tellers d.requests zs + 64 = omega (arith, pending, held) in
-      let idle : served_in w.place ≡ None = ap served_in sound.here in
+      let less : tellers d'.requests zs + 64 ≤ tellers d.requests zs + 64 = omega (arith, pending, one_held_less s0 id told ready) in
       let again : KeepsBy w d' zs rs1 ss s =
-      keeps_watched w s d d' zs rs rs1 ss id r unobserved left idle watched keeps to
+      keeps_watched w s d d' zs rs rs1 ss id r unobserved w.home.deferred (ap served_in sound.here) watched keeps (grind arith)
       (places_fewer less keeps.told)
       (record { wakes = omega (arith, less, keeps.wide.wakes); completions = omega (arith, less, keeps.wide.completions); outputs = omega (arith, less, keeps.wide.outputs); resources = omega (arith, less, keeps.wide.resources); results = omega (arith, less, keeps.wide.results) })
       refl pending (subst IsPunctual drv (by.punctual sound.due.punctual)) (sound.due.told refl) sound.due.wheel in
@@ -123,36 +106,11 @@ module _ {B : Type 0} where
   -- and of what tasks hold
   pub gets_holds : (x : InPoll) (t k : ℕ) (w w' : Worker) (s s' : Shared B) (slot slot' : TaskSlot B) (r : Record) (output : RequestOutput) (outcome : Outcome) → SoundAt (Place.Poll t x) w s → has_wakes_at (Place.Poll t x) ≡ false → TakesOwn x t k w w' s s' slot slot' r output outcome → is_complete slot.cell.phase ≡ false
       → (others : Profile) → Holds (with_worker others w) s → Holds (with_worker others w) s'
-  gets_holds x t k w w' s s' slot slot' r output outcome sound quiet by going others holds =
-      let h = hands_of (with_worker others w) in
-      let hs : List Holder = map holder_of s.tasks.items in
-      let ts = map thing_of s.requests.items in
-      let naps = map nap_of s.sleepers.items in
-      let boxes = map box_of s.seats.items in
-      let at_t = holder_there s.tasks.items t slot by.there in
-      let at_r = thing_there s.requests.items k r by.request in
-      let box = there_within boxes r.shown.worker (holds.of_worker k (thing_of r) at_r) in
-      let took = by.gets.took in
-      let now = thing_taken h s.config.workers hs ts naps boxes t k (holder_of slot) (holder_of slot') (thing_of r) (thing_of r).ended
-      (record {
-        there = at_t;
-        thing = at_r;
-        newest = subst (IsNewest k slot.held.items) (sym by.gets.held) (newest_split slot.held.items k by.newest);
-        took = ap holder_of took ∙ ap (λ o. record (holder_of slot) { held = slot'.held.items; awaits = None; output = o }) (sym (ap (λ (y : TaskSlot B). y.output) took));
-        going = going;
-        awaited = ⊎_elim (λ none. inl none) (λ is. inr (ap awaited_in is)) by.waits;
-        ended = λ some. refl;
-        sent = λ sent. absurd (false≢true (sym sent ∙ by.unsent));
-        unowed = λ unsent. subst (λ j. h.wakes j t ≡ 0) (sym by.mine) (no_wakes x t w s others t quiet sound);
-        box = box.0;
-        seat = box.1;
-      }) holds in
-      let tasks : map holder_of s'.tasks.items ≡ slice_set hs t (holder_of slot') = ap (map holder_of) by.tasks ∙ holders_one s.tasks.items t slot' in
-      let things : map thing_of s'.requests.items ≡ slice_set ts k (thing_of (unobserved r)) = ap (map thing_of) by.requests ∙ map-set thing_of s.requests.items k (unobserved r) in
-      let there : IsHolding h s.config.workers (map holder_of s'.tasks.items) (map thing_of s'.requests.items) naps boxes =
-      subst (λ a. IsHolding h s.config.workers a (map thing_of s'.requests.items) naps boxes) (sym tasks)
-      (subst (λ a. IsHolding h s.config.workers (slice_set hs t (holder_of slot')) a naps boxes) (sym things) now) in
-      subst (Holds (with_worker others w)) (sym by.kept) there
+  gets_holds x t k w w' s s' slot slot' r output outcome sound quiet by going others =
+      holds_taken t k w s s' slot slot' r others by.there by.request by.newest by.gets.held
+      (ap holder_of by.gets.took ∙ ap (λ o. record (holder_of slot) { held = slot'.held.items; awaits = None; output = o }) (sym (ap (λ (y : TaskSlot B). y.output) by.gets.took)))
+      going (⊎_elim (λ none. inl none) (λ is. inr (ap awaited_in is)) by.waits) (λ sent. absurd (false≢true (sym sent ∙ by.unsent)))
+      (λ unsent. subst (λ j. (hands_of (with_worker others w)).wakes j t ≡ 0) (sym by.mine) (no_wakes x t w s others t quiet sound)) by.tasks by.requests by.kept
 
   pub gets_deals : (x : InPoll) (t k : ℕ) (w w' : Worker) (s s' : Shared B) (slot slot' : TaskSlot B) (r : Record) (output : RequestOutput) (outcome : Outcome) → TakesOwn x t k w w' s s' slot slot' r output outcome → Dealt InPoll.Act w.index slot slot' s'.requests.items s'.sleepers.items
   gets_deals = grind arith
@@ -222,15 +180,13 @@ module _ {B L : Type 0} (left : B → L) (spot : L → Option Said → Spot) (an
       let request : request_of all k ≡ r.shown = request_at rs k r by.request in
       let names : map name_in rs' ≡ map name_in rs = ap (map name_in) by.requests ∙ ap (λ o. map name_in (changed_in rs k (λ y. unobserved r) o)) (sym by.request) ∙ names_changed rs k r (λ y. unobserved r) by.request refl in
       let gates = same_gates rs rs' names s.opens in
-      let opens = same_opens rs rs' names s.opens in
       let answers : numbers_of_passing (λ (q : Record). q.sent) 0 rs' ≡ things.answers = passing_same (λ (q : Record). q.sent) rs rs' (ap (map (λ (q : Record). q.sent)) by.requests ∙ map-set (λ (q : Record). q.sent) rs k (unobserved r) ∙ set_found (map (λ (q : Record). q.sent) rs) k r.sent (slice_get-map (λ (q : Record). q.sent) rs k ∙ ap (option_map (λ (q : Record). q.sent)) by.request)) in
       let same_things : things_with vs s1 ≡ things = ap (λ g. record things { gates = g; answers = numbers_of_passing (λ (q : Record). q.sent) 0 rs' }) gates ∙ ap (λ a. record things { answers = a }) answers in
       let tasks : map (task_seen left spot) s'.tasks.items ≡ slice_set all.tasks t (past_newest all (task_of all t)) = ap (map (task_seen left spot)) by.tasks ∙ map-set (task_seen left spot) s.tasks.items t slot' ∙ ap (slice_set all.tasks t) (sees.seen ∙ ap (past_newest all) (sym it)) in
       let shown : map (λ (q : Record). q.shown) rs' ≡ slice_set all.requests k (record (request_of all k) { observed = false }) = ap (map (λ (q : Record). q.shown)) by.requests ∙ map-set (λ (q : Record). q.shown) rs k (unobserved r) ∙ ap (λ q. slice_set all.requests k (record q { observed = false })) (sym request) in
-      let desk : desk_of w' ≡ acts_on t (without_request k (desk_of w)) = got_desk (Place.Poll t x) t k w w' s r sound there by.worker by.driver in
       let done : Works left spot p vs w0 s (Got k outcome) w' s1 = record {
         choice = Plain;
-        moves = grind (arith, sees.moves, desk, same_things, again);
+        moves = grind (arith, sees.moves, got_desk (Place.Poll t x) t k w w' s r sound there by.worker by.driver, same_things, again);
         may = (
           sees.takes,
           (
@@ -242,7 +198,7 @@ module _ {B L : Type 0} (left : B → L) (spot : L → Option Said → Spot) (an
           ),
         );
         own = got_own t k w w' r there by.worker by.driver ∙ sym sees.own_after_is;
-        common = grind (arith, again, opens, tasks, shown, sees.after);
+        common = grind (arith, again, same_opens rs rs' names s.opens, tasks, shown, sees.after);
       } in
       subst (Works left spot p vs w s (Got k outcome) w') (sym by.kept) (subst (λ v. Works left spot p vs v s (Got k outcome) w' s1) (ap (λ y. record w { place = y }) (sym sound.here)) done)
     where

@@ -1,12 +1,5 @@
 -- A POLLED TASK LOOKS at a request of its worker's that it waits for, which is over: it takes the output.
-use Rattle.std.proofs.{Common.{◌≡◌, ℕ, arith, ◌-◌, ◌<◌, ◌==◌, ◌||◌, Bool, true, length, take, Option, Some, None, refl, sym, ap, subst, ◌∙◌, slice_get}, lemmas.{Bool.{eq-eqb}, Option.slice_get_within}}
-use Rattle.exec_outcomes.specs.declared.outcome.Outcome.{Outcome}
-use Rattle.exec_request.specs.declared.output.RequestOutput.{RequestOutput}
-use Rattle.exec_task.specs.declared.body.Said.{Said}
-use Rattle.exec_machine.specs.{declared.{event.Event.{Event, TheVariants.Got}, state.{MailMessage.TheVariants.ForwardRequest, Request.Request, RequestPhase.{RequestPhase, TheVariants.Resolved}, Waiting.Waiting}}, Progress.Plan, Tests.{is_resolved, is_unsent, waits_for_request}, Words.{acts, asks_await}, World.{Common, Task, request_of, task_of}, Choice.Choice.Plain}
-use Rattle.exec_moves.specs.{declared.{handing.AfterSend.AfterSend, place.{InPoll.InPoll, Place.Place}}, Move.{move_look_at, move_at}, Poll.{Sight.{Asks, HearsRequest}, acts_on, resume, sight_by, sight_of}, State.{Desk, Moved, Things, does}, Thing.aside, Told.without_request}
-use Rattle.exec_parts.{specs.{declared.parts.{record.Record.Record, shared.Shared.Shared, task_slot.TaskSlot.TaskSlot, worker.Worker.Worker}, Awaits.newest_of, Polls.{IsReady, TookOutput}, Records.numbers_held, Scripts.IsAnswered, Spots.Spot, View.{Views, common_of, desk_of, driver_of, own_of, task_seen, things_with}}, proofs.Facts.same_Some}
-use Rattle.exec_invariants.{specs.{Hearing.{Hears}, Sound.{SoundAt, acts_next}, Whole.HasWhole, Works.Steps}, proofs.{Hearing.hears_so, Here.IsHere, Seen.request_at, Slots.task_there, TaskDeals.from_look, TaskGets.{SeesGot, TakesOwn, got_works, gets_leaves, past_newest, there_is}, TaskHears.numbers_without, TaskLooks.newest_awaited, TaskTakes.spot_answered, TaskWants.newest_is}}
+use Rattle.exec_invariants.{specs.{Hearing.Hears, Sound.{SoundAt, acts_next}, Whole.HasWhole, Works.Steps}, proofs.{Words.{◌≡◌, ℕ, arith, ◌-◌, ◌<◌, ◌==◌, ◌||◌, Bool, true, length, take, Option, Some, None, refl, sym, ap, subst, ◌∙◌, slice_get, eq-eqb, slice_get_within, Outcome, RequestOutput, Said, Event, Got, ForwardRequest, Request, RequestPhase, Resolved, Waiting, Plan, is_resolved, is_unsent, waits_for_request, acts, asks_await, Common, Task, request_of, task_of, Plain, AfterSend, InPoll, Place, move_look_at, move_at, Asks, HearsRequest, acts_on, resume, sight_by, sight_of, Desk, Moved, Things, does, aside, without_request, Record, Shared, TaskSlot, Worker, newest_of, IsReady, TookOutput, numbers_held, IsAnswered, Spot, Views, common_of, desk_of, driver_of, own_of, task_seen, things_with, same_Some}, Hearing.hears_so, Here.IsHere, Seen.request_at, Slots.task_there, TaskDeals.from_look, TaskGets.{SeesGot, TakesOwn, got_works, gets_leaves, past_newest, there_is}, TaskHears.numbers_without, TaskLooks.newest_awaited, TaskTakes.spot_answered, TaskWants.newest_is}}
 
 -- a look at a request that is over
 looks_at : (i t k : ℕ) (s : Common) (d : Desk) (it : Task) (r : Request) (outcome : Outcome) → it.waiting ≡ Waiting.Request k → request_of s k ≡ r → r.phase ≡ Resolved outcome → resume i t s d it ≡ does (Got k outcome) (acts_on t (without_request k d)) it
@@ -24,8 +17,7 @@ module _ {B : Type 0} where
   pub may_take_own : (x : InPoll) (t k : ℕ) (w : Worker) (s : Shared B) (r : Record) → (sound : SoundAt (Place.Poll t x) w s) → HasWhole w s → (at : IsHere x t w s) → newest_of at.slot ≡ Some k → slice_get s.requests.items k ≡ Some r → is_unsent r.shown.forwarding ≡ true → r.shown.worker ≡ w.index
       → is_resolved r.shown.phase ≡ true → MayTakeOwn t k w s
   may_take_own x t k w s r sound has at newest at_k unsent mine over =
-      let held = newest_is x t k w s r has at newest at_k in
-      let there = there_is (Place.Poll t x) k w s r sound at_k mine held.observed unsent over in
+      let there = there_is (Place.Poll t x) k w s r sound at_k mine (newest_is x t k w s r has at newest at_k).observed unsent over in
       let is = resolved_is r.shown.phase over in
       let within : length (numbers_held at.slot.held.items) - 1 < length (numbers_held at.slot.held.items) = slice_get_within (numbers_held at.slot.held.items) (length (numbers_held at.slot.held.items) - 1) k newest in
       grind arith
@@ -74,10 +66,9 @@ module _ {B L : Type 0} (left : B → L) (spot : L → Option Said → Spot) (an
       let less : slot'.held.items ≡ take (length slot.held.items - 1) slot.held.items = subst (λ (o : TaskSlot B). slot'.held.items ≡ take (length o.held.items - 1) o.held.items) same_slot took.all in
       let by : TakesOwn InPoll.Resume t k w w' s s' slot slot' r took.output took.outcome = grind arith in
       let leaves = gets_leaves InPoll.Resume t k w w' s s' slot' r took.output took.outcome (λ i u rs ss. tt) (from_look t) sound refl it by held.observed there in
-      let place : w'.place ≡ Place.Poll t InPoll.Act = ap (λ (y : Worker). y.place) took.worker in
       let done : Steps left spot w s (Got k took.outcome) w' s' = (
         (λ p vs suits. got_works left spot answered InPoll.Resume t k w w' s s' slot slot' r took.output took.outcome sound by there p vs suits (sees p vs slot slot' took.output took.outcome it.there waits untold so less over)),
-        subst (λ q. SoundAt q w' s') (sym place) leaves.sound,
+        subst (λ q. SoundAt q w' s') (sym (ap (λ (y : Worker). y.place) took.worker)) leaves.sound,
         hears_so t slot slot' (ap (λ (y : Worker). y.root) took.worker) (ap (λ (z : Shared B). z.config) took.kept) it.there took.tasks (hears_got k slot slot' took.output so less untold waits),
         leaves.beside,
       ) in

@@ -1,13 +1,5 @@
 -- A POLLED TASK LOOKS whether an end was sent to it that it waits for elsewhere: it takes the output, or its poll ends next.
-use Rattle.std.proofs.{lemmas.{List.map-set, Option.slice_get-map, Bool.{false≢true, eq-eqb}}, Common.{inr, inl, ◌≡◌, ℕ, zero, suc, true, false, List, [], ◌∷◌, take, Option, Some, None, refl, sym, ap, subst, ◌∙◌, arith, length, ◌-◌, map, option_map, slice_get, slice_set, if◌then◌else◌}}
-use Rattle.exec_base.specs.declared.one_shot.OneShotState.TheVariants.{Closed as Shut}
-use Rattle.exec_outcomes.specs.declared.outcome.Outcome.{Outcome, TheVariants.{Success, Failure}}
-use Rattle.exec_request.specs.declared.output.RequestOutput.{RequestOutput}
-use Rattle.exec_task.specs.declared.body.Said.{Said}
-use Rattle.exec_machine.specs.{declared.{state.{Forwarding.TheVariants.Applied, RequestPhase.TheVariants.Resolved, Waiting.Waiting}, event.Event.{Event, TheVariants.{Got, Turn}}}, Choice.Choice.Plain, Progress.Plan, Tasks.{without_newest}, Tests.{is_resolved, is_resolved_with, is_unsent, waits_for_nothing}, Words.{moved_on}, World.{Task, request_of, task_of}}
-use Rattle.exec_moves.specs.{declared.{handing.AfterSend.AfterSend, place.{InPoll.InPoll, Place.Place}}, Move.move_look_at, Poll.{resume, sight_of}, State.{Moved, Things}, Thing.{aside}}
-use Rattle.exec_parts.{specs.{declared.parts.{held.Held.Held, record.Record.Record, shared.Shared.Shared, sleeping.SleeperRecord.SleeperRecord, task_slot.TaskSlot.TaskSlot, worker.Worker.Worker}, Phased.is_complete, MailPosts.TakesAnswer, Polls.unobserved, Records.numbers_held, Scripts.IsAnswered, Spots.Spot, View.{Views, common_of, desk_of, numbers_of_passing, own_of, task_seen, things_with, visible, with_view}, Serving.changed_in}, proofs.Facts.same_Some}
-use Rattle.exec_invariants.{specs.{Hearing.{Hears}, Spares.SparesRecord, Holding.{Holder, IsHolding, awaited_in, box_of, holder_of, nap_of, thing_of}, Sound.{MayStop, SoundAt, acts_next, is_told, may_end}, Whole.{HasWhole, hands_of, with_worker}, Works.{Steps, Suits, Works}}, proofs.{HoldSteps.{IsNewest, thing_taken}, Results.same_error_self, Here.{IsHere, going_on}, HoldBeside.Holds, HoldThings.{Touches, touches_none, touches_record}, Seen.{request_at, sleeper_at}, Slots.{IsEvent, task_there, works_slot}, TaskDeals.{Dealt, acts as to_act, dealt, ends as to_end, from_look}, Keys.{name_in, names_changed, same_gates, same_opens}, Lined.passing_same, SparedRecord.there_within, TaskTakes.{holder_there, holders_one, passes_at, spot_answered}, Turning.{set_found, view_found}}}
+use Rattle.exec_invariants.{specs.{Hearing.Hears, Spares.SparesRecord, Holding.{Holder, IsHolding, awaited_in, box_of, holder_of, nap_of, thing_of}, Sound.{MayStop, SoundAt, acts_next, is_told, may_end}, Whole.{HasWhole, hands_of, with_worker, Profile}, Works.{Steps, Suits, Works}}, proofs.{Words.{map-set, slice_get-map, false≢true, eq-eqb, inr, inl, ◌≡◌, ℕ, suc, true, false, List, [], ◌∷◌, take, Option, Some, None, refl, sym, ap, subst, ◌∙◌, arith, length, ◌-◌, map, option_map, slice_get, slice_set, if◌then◌else◌, Shut, Outcome, Success, Failure, RequestOutput, Said, Applied, Resolved, Waiting, Event, Got, Turn, Plain, Plan, without_newest, is_resolved, is_resolved_with, is_unsent, waits_for_nothing, moved_on, Task, request_of, task_of, AfterSend, InPoll, Place, move_look_at, resume, sight_of, Moved, Things, aside, Held, Record, Shared, SleeperRecord, TaskSlot, Worker, is_complete, TakesAnswer, unobserved, numbers_held, IsAnswered, Spot, Views, common_of, desk_of, numbers_of_passing, own_of, task_seen, things_with, visible, with_view, changed_in, same_Some, take-map, length-map, ◌⊎◌, Subject}, HoldSteps.{IsNewest, thing_taken}, Results.same_error_self, Here.{IsHere, going_on}, HoldBeside.Holds, HoldThings.{Touches, touches_none, touches_record}, Seen.{request_at, sleeper_at}, Slots.{IsEvent, task_there, works_slot}, TaskDeals.{Dealt, acts as to_act, dealt, ends as to_end, from_look}, Keys.{name_in, names_changed, same_gates, same_opens}, Lined.passing_same, SparedRecord.there_within, TaskTakes.{holder_there, holders_one, passes_at, spot_answered}, Turning.{set_found, view_found}}}
 
 module _ {B : Type 0} where
   -- the slot stays, and its poll ends
@@ -70,18 +62,8 @@ newest_split (x ∷ (y ∷ ys)) k at =
     let rest = newest_split (y ∷ ys) k (ap (slice_get (numbers_held (x ∷ (y ∷ ys)))) (sym more) ∙ at) in
     subst (λ n. IsNewest k (x ∷ (y ∷ ys)) (take n (x ∷ (y ∷ ys)))) (sym most) (record { x = rest.x; number = rest.number; all = ap (λ hs. x ∷ hs) rest.all })
 
-numbers_taken : (n : ℕ) (held : List Held) → numbers_held (take n held) ≡ take n (numbers_held held)
-numbers_taken zero [] = refl
-numbers_taken zero (x ∷ xs) = refl
-numbers_taken (suc n) [] = refl
-numbers_taken (suc n) (x ∷ xs) = ap (λ ns. x.number ∷ ns) (numbers_taken n xs)
-
-numbers_many : (held : List Held) → length (numbers_held held) ≡ length held
-numbers_many [] = refl
-numbers_many (x ∷ xs) = ap suc (numbers_many xs)
-
 pub numbers_without : (held : List Held) → numbers_held (take (length held - 1) held) ≡ without_newest (numbers_held held)
-numbers_without held = numbers_taken (length held - 1) held ∙ ap (λ n. take (n - 1) (numbers_held held)) (sym (numbers_many held))
+numbers_without held = sym (take-map (λ (h : Held). h.number) (length held - 1) held) ∙ ap (λ n. take (n - 1) (numbers_held held)) (sym (length-map held (λ (h : Held). h.number)))
 
 pub resolved_self : (outcome : Outcome) → is_resolved_with outcome (Resolved outcome) ≡ true
 resolved_self Success = refl
@@ -91,6 +73,38 @@ pub thing_there : (rs : List Record) (k : ℕ) (r : Record) → slice_get rs k �
 thing_there rs k r there = slice_get-map thing_of rs k ∙ ap (option_map thing_of) there
 
 module _ {B : Type 0} where
+  -- what tasks hold, once task t took the output of request k
+  pub holds_taken : (t k : ℕ) (w : Worker) (s s' : Shared B) (slot slot' : TaskSlot B) (r : Record) (others : Profile) → slice_get s.tasks.items t ≡ Some slot → slice_get s.requests.items k ≡ Some r → slice_get (numbers_held slot.held.items) (length (numbers_held slot.held.items) - 1) ≡ Some k
+      → slot'.held.items ≡ take (length slot.held.items - 1) slot.held.items → holder_of slot' ≡ record (holder_of slot) { held = slot'.held.items; awaits = None; output = slot'.output } → is_complete slot.cell.phase ≡ false → (awaited_in slot.waiting ≡ None) ⊎ (awaited_in slot.waiting ≡ Some (Subject.Request k))
+      → (is_unsent r.shown.forwarding ≡ false → r.sent ≡ true) → (is_unsent r.shown.forwarding ≡ true → (hands_of (with_worker others w)).wakes r.shown.worker t ≡ 0) → s'.tasks.items ≡ slice_set s.tasks.items t slot' → s'.requests.items ≡ slice_set s.requests.items k (unobserved r)
+      → s' ≡ record s { tasks = s'.tasks; requests = s'.requests } → Holds (with_worker others w) s → Holds (with_worker others w) s'
+  holds_taken t k w s s' slot slot' r others there at_k newest less took going awaited sent unowed items records kept holds =
+      let h = hands_of (with_worker others w) in
+      let hs : List Holder = map holder_of s.tasks.items in
+      let ts = map thing_of s.requests.items in
+      let naps = map nap_of s.sleepers.items in
+      let boxes = map box_of s.seats.items in
+      let at_r = thing_there s.requests.items k r at_k in
+      let box = there_within boxes r.shown.worker (holds.of_worker k (thing_of r) at_r) in
+      let now = thing_taken h s.config.workers hs ts naps boxes t k (holder_of slot) (holder_of slot') (thing_of r) (thing_of r).ended
+      (record {
+        there = holder_there s.tasks.items t slot there;
+        thing = at_r;
+        newest = subst (IsNewest k slot.held.items) (sym less) (newest_split slot.held.items k newest);
+        took = took;
+        going = going;
+        awaited = awaited;
+        ended = λ some. refl;
+        sent = sent;
+        unowed = unowed;
+        box = box.0;
+        seat = box.1;
+      }) holds in
+      let tasks : map holder_of s'.tasks.items ≡ slice_set hs t (holder_of slot') = ap (map holder_of) items ∙ holders_one s.tasks.items t slot' in
+      let things : map thing_of s'.requests.items ≡ slice_set ts k (thing_of (unobserved r)) = ap (map thing_of) records ∙ map-set thing_of s.requests.items k (unobserved r) in
+      subst (Holds (with_worker others w)) (sym kept)
+      (subst (λ a. IsHolding h s.config.workers a (map thing_of s'.requests.items) naps boxes) (sym tasks) (subst (λ a. IsHolding h s.config.workers (slice_set hs t (holder_of slot')) a naps boxes) (sym things) now))
+
   -- what the slot is then
   record HeardSo (k : ℕ) (slot slot' : TaskSlot B) (output : RequestOutput) : Type 0 where
     took : slot' ≡ record slot { held = slot'.held; waiting = Waiting.Nothing; told = Some (Said.Output output); output = Shut }
@@ -143,14 +157,9 @@ module _ {B L : Type 0} (left : B → L) (spot : L → Option Said → Spot) (an
       → TakesAnswer t k r w w' s s' e → Steps left spot w s e w' s'
   output_heard t k w w' s s' e r sound has it waits at_k sent by =
       let slot = it.slot in
-      let holding = has.whole.holding in
-      let hs : List Holder = map holder_of s.tasks.items in
-      let at_t : slice_get hs t ≡ Some (holder_of slot) = holder_there s.tasks.items t slot it.there in
-      let at_r : slice_get (map thing_of s.requests.items) k ≡ Some (thing_of r) = thing_there s.requests.items k r at_k in
       let going : is_complete slot.cell.phase ≡ false = going_on slot.cell.phase it.polled in
-      let awaiting = holding.awaiting t (holder_of slot) k at_t (ap awaited_in waits) in
-      let newest = awaiting.2.newest going in
-      let applied : r.shown.forwarding ≡ Applied = holding.sent k (thing_of r) at_r sent in
+      let newest = (has.whole.holding.awaiting t (holder_of slot) k (holder_there s.tasks.items t slot it.there) (ap awaited_in waits)).2.newest going in
+      let applied : r.shown.forwarding ≡ Applied = has.whole.holding.sent k (thing_of r) (thing_there s.requests.items k r at_k) sent in
       let same : by.slot ≡ slot = same_Some by.slot slot (sym by.there ∙ it.there) in
       let so : HeardSo k slot by.slot' by.output = subst (λ o. HeardSo k o by.slot' by.output) same (record { took = by.took; held = by.held }) in
       let untold : slot.told ≡ None = it.untold (ap acts_next waits) in
@@ -162,29 +171,7 @@ module _ {B L : Type 0} (left : B → L) (spot : L → Option Said → Spot) (an
       let done : Steps left spot w s (Got k by.outcome) w' s' =
       dealt left spot InPoll.Resume InPoll.Act t w w' s s' (Got k by.outcome) by.slot' (from_look t) (to_act t) sound it by.worker kept by.tasks
       (subst (λ z. Touches s (record s { requests = s'.requests; sleepers = z })) (sym slept) (touches_record s s' k r (unobserved r) at_k spares by.requests)) (dealt_heard t k w s it by.slot' by.output s'.requests.items s'.sleepers.items so) (hears_heard k slot by.slot' by.output so untold waits)
-      (λ others holds.
-      let x = hands_of (with_worker others w) in
-      let ts = map thing_of s.requests.items in
-      let boxes = map box_of s.seats.items in
-      let box = there_within boxes r.shown.worker (holds.of_worker k (thing_of r) at_r) in
-      let now = thing_taken x s.config.workers hs ts (map nap_of s.sleepers.items) boxes t k (holder_of slot) (holder_of by.slot') (thing_of r) (thing_of r).ended
-      (record {
-        there = at_t;
-        thing = at_r;
-        newest = subst (IsNewest k slot.held.items) (sym so.held) (newest_split slot.held.items k newest);
-        took = ap holder_of so.took ∙ ap (λ o. record (holder_of slot) { held = by.slot'.held.items; awaits = None; output = o }) (sym (ap (λ (y : TaskSlot B). y.output) so.took));
-        going = going;
-        awaited = inr (ap awaited_in waits);
-        ended = λ h. refl;
-        sent = λ h. sent;
-        unowed = λ unsent. absurd (false≢true (sym (ap is_unsent applied) ∙ unsent));
-        box = box.0;
-        seat = box.1;
-      }) holds in
-      let tasks : map holder_of s'.tasks.items ≡ slice_set hs t (holder_of by.slot') = ap (map holder_of) by.tasks ∙ holders_one s.tasks.items t by.slot' in
-      let things : map thing_of s'.requests.items ≡ slice_set ts k (thing_of (unobserved r)) = ap (map thing_of) by.requests ∙ map-set thing_of s.requests.items k (unobserved r) in
-      let there : IsHolding x s.config.workers (map holder_of s'.tasks.items) (map thing_of s'.requests.items) (map nap_of s.sleepers.items) boxes =
-      subst (λ a. IsHolding x s.config.workers a (map thing_of s'.requests.items) (map nap_of s.sleepers.items) boxes) (sym tasks)
-      (subst (λ a. IsHolding x s.config.workers (slice_set hs t (holder_of by.slot')) a (map nap_of s.sleepers.items) boxes) (sym things) now) in
-      subst (Holds (with_worker others w)) (sym by.kept) there) works in
+      (λ others. holds_taken t k w s s' slot by.slot' r others it.there at_k newest so.held
+      (ap holder_of so.took ∙ ap (λ o. record (holder_of slot) { held = by.slot'.held.items; awaits = None; output = o }) (sym (ap (λ (y : TaskSlot B). y.output) so.took)))
+      going (inr (ap awaited_in waits)) (λ h. sent) (λ unsent. absurd (false≢true (sym (ap is_unsent applied) ∙ unsent))) by.tasks by.requests by.kept) works in
       subst (λ y. Steps left spot w s y w' s') (sym by.event) done

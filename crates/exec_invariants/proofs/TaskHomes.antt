@@ -1,10 +1,5 @@
 -- A POLL GOES ON, and its worker's own driver has changed with one of its requests: the task took its output, waits for it, or let go of it.
-use Rattle.std.proofs.Common.{◌≡◌, ◌≢◌, ℕ, false, Contains, List, [], length, Option, Some, None, refl, sym, ap, subst, ◌∙◌, slice_set, arith}
-use Rattle.exec_task.specs.declared.task.Task.{Task as TaskCell}
-use Rattle.exec_machine.specs.declared.state.Waiting.{Waiting}
-use Rattle.exec_moves.specs.{declared.place.{InPoll.InPoll, Place.Place}, Seen.polls_at}
-use Rattle.exec_parts.specs.{declared.parts.{mail.Subject.Subject, record.Record.Record, shared.Shared.Shared, sleeping.SleeperRecord.SleeperRecord, task_slot.TaskSlot.TaskSlot, worker.Worker.Worker}, View.driver_of}
-use Rattle.exec_invariants.{specs.{Carried.HasRoom, Due.IsDue, Flown.HasFlown, Gates.AreLinedUp, Holding.Mail, HoldPlaces.{cancels_at, has_wakes_at, sends_cancel_at}, Places.step_of_poll, Sound.{AreHome, HasLetters, IsMyMail, SoundAt, Stops, StopsIn, served_in}, Spares.Spares, Whole.{IsWhole, Profile, with_worker}, Works.Beside}, proofs.{Here.IsHere, HoldBeside.{Deals, Handles, Holds, whole_dealt}, HoldThings.{Touches, touches_none}, Lined.lined_kept, Polling.home_mine, ServingHolds.Keeps, Serving.{SparesRecords, letter_kept, mail_kept, spares_service}, Slots.spares_slot, SlotTasks.Keeps as KeepsSlot, TaskDeals.{ComesFrom, Dealt, GoesOn, here_or_none, sound_dealt}}}
+use Rattle.exec_invariants.{specs.{Carried.HasRoom, Due.IsDue, Flown.HasFlown, Gates.AreLinedUp, Holding.Mail, HoldPlaces.{cancels_at, has_wakes_at, sends_cancel_at}, Places.step_of_poll, Sound.{AreHome, HasLetters, IsMyMail, SoundAt, Stops, StopsIn, served_in}, Spares.Spares, Whole.{IsWhole, Profile, with_worker}, Works.Beside}, proofs.{Words.{◌≡◌, ◌≢◌, ℕ, false, Contains, List, [], length, Option, Some, None, refl, sym, ap, subst, ◌∙◌, slice_set, arith, TaskCell, Waiting, InPoll, Place, polls_at, Subject, Record, Shared, SleeperRecord, TaskSlot, Worker, driver_of}, Here.IsHere, HoldBeside.{Handles, Holds, whole_dealt}, HoldThings.{Touches, touches_none}, Lined.lined_kept, Polling.home_mine, ServingHolds.Keeps, Serving.{SparesRecords, letter_kept, mail_kept, spares_service}, Slots.spares_slot, SlotTasks.Keeps as KeepsSlot, TaskDeals.{ComesFrom, Dealt, GoesOn, here_or_none, sound_dealt}}}
 
 -- the place where it is says nothing of what its task waits for
 abbrev pub IsFree : InPoll → Type 0
@@ -46,15 +41,13 @@ module _ {B : Type 0} where
       let flown : HasFlown (served_in p) w.index v1.names (driver_of v1) rs' = subst (λ q. HasFlown (served_in q) w.index v1.names (driver_of v1) rs') sound.here keeps1.flown in
       let quiet : has_wakes_at p ≡ false → v.home.deferred.notes.wakes.items ≡ [] = subst (λ q. has_wakes_at q ≡ false → v.home.deferred.notes.wakes.items ≡ []) sound.here keeps1.quiet in
       let stops : Stops (polls_at p) (step_of_poll p) w.index s.tasks.items rs' ss = free_stops (polls_at p) in
-      let told = keeps1.told in
-      let wide = keeps1.wide in
       let named = keeps1.named in
       let sized = keeps1.sized in
       let over = keeps1.over in
       let carried = keeps1.carried in
       let known = keeps1.known in
       let rooted = keeps1.rooted in
-      let there : SoundAt p v1 s2 = assumption (gates, mail, letters, due, flown, quiet, stops, told, wide, named, sized, over, carried, known, rooted, tt, sound) in
+      let there : SoundAt p v1 s2 = assumption (gates, mail, letters, due, flown, quiet, stops, keeps1.told, keeps1.wide, named, sized, over, carried, known, rooted, tt, sound) in
       subst (λ y. SoundAt p y s1) (sym to.worker) (subst (SoundAt p v1) (sym to.shared) there)
     where
       free_stops : (o : Option ℕ) → Stops o x w.index s.tasks.items s1.requests.items s.sleepers.items
@@ -73,14 +66,13 @@ module _ {B : Type 0} where
       → Homes w v s (record s { requests = s'.requests }) → Dealt y w.index it.slot slot' s'.requests.items s'.sleepers.items → SoundAt (Place.Poll t y) (record v { place = Place.Poll t y }) s'
   sound_goes x y t w v s s' slot' free from on sound it kept items to deals =
       let s1 : Shared B = record s { requests = s'.requests } in
-      let sound1 = sound_homed x t w v s s1 free sound to in
       let it1 = here_again x t w v s s1 to it in
       let index : v.index ≡ w.index = ap (λ (y : Worker). y.index) to.worker in
       let slept : s'.sleepers ≡ s.sleepers = ap (λ (z : Shared B). z.sleepers) kept in
       let kept1 : s' ≡ record s1 { tasks = s'.tasks; requests = s'.requests; sleepers = s'.sleepers } = kept ∙ ap (λ z. record s { tasks = s'.tasks; requests = s'.requests; sleepers = z }) (sym slept) in
       let touches : Touches s1 (record s1 { requests = s'.requests; sleepers = s'.sleepers }) = subst (λ z. Touches s1 (record s1 { requests = s'.requests; sleepers = z })) (sym slept) (touches_none s1) in
       let deals1 : Dealt y v.index it1.0.slot slot' s'.requests.items s'.sleepers.items = subst (λ i. Dealt y i it1.0.slot slot' s'.requests.items s'.sleepers.items) (sym index) (subst (λ o. Dealt y w.index o slot' s'.requests.items s'.sleepers.items) (sym it1.1) deals) in
-      sound_dealt x y t v s1 s' slot' from on sound1 it1.0 kept1 items touches deals1
+      sound_dealt x y t v s1 s' slot' from on (sound_homed x t w v s s1 free sound to) it1.0 kept1 items touches deals1
 
   -- WHAT IT LEAVES OF OTHERS
   spares_goes : (t i : ℕ) (s s' : Shared B) (slot slot' : TaskSlot B) → s' ≡ record s { tasks = s'.tasks; requests = s'.requests } → Handles t s s' slot slot' → slot.poller ≡ i → ((j : ℕ) → slot.home ≡ Some j → j ≡ i) → AreHome s.config.workers (length s.seats.items) s.tasks.items
@@ -99,13 +91,11 @@ module _ {B : Type 0} where
       let w' : Worker = record v { place = Place.Poll t y } in
       let w2 : Worker = record w { place = Place.Poll t y; names = record w.names { ended = v.names.ended }; home = record w.home { driver = v.home.driver } } in
       let handles : Handles t s s' slot slot' = record { there = it.there; items = items; cell = deals.cell; home = deals.home; cleared = deals.cleared; poller = deals.poller } in
-      let all_deals : Deals t w w2 s s' slot slot' = grind arith in
-      let mine : (j : ℕ) → slot.home ≡ Some j → j ≡ w.index = home_mine w.index slot.home (here_or_none x t w s it) in
       let worker : w' ≡ record w2 { home = record w2.home { deferred = v.home.deferred } } = ap (λ (z : Worker). record z { place = Place.Poll t y }) to.worker in
       record {
-        spares = spares_goes t w.index s s' slot slot' kept handles it.poller mine sound.homes to.spares to.keeps.carried.room;
+        spares = spares_goes t w.index s s' slot slot' kept handles it.poller (home_mine w.index slot.home (here_or_none x t w s it)) sound.homes to.spares to.keeps.carried.room;
         whole = λ others whole.
-            let there = whole_dealt t w w2 s s' slot slot' others all_deals (holds others whole.holding) whole in
+            let there = whole_dealt t w w2 s s' slot slot' others (grind arith) (holds others whole.holding) whole in
             subst (λ z. IsWhole (with_worker others z) s') (sym worker)
             (subst (λ z. IsWhole z s') (sym (with_wakes others (record w2 { home = record w2.home { deferred = v.home.deferred } }) w2 refl to.wakes)) there);
       }

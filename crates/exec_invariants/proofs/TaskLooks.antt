@@ -1,14 +1,6 @@
 -- WHAT A LOOK NEEDS: that who has what the task waits for can be asked, or that its end lies with the task; and the whole look at one
 -- that was forwarded.
-use Rattle.std.proofs.{Common.{◌≡◌, ◌≢◌, inr, ℕ, ◌-◌, ◌<◌, ◌||◌, Bool, true, false, length, map, Option, Some, Result, Ok, Err, refl, sym, ap, subst, ◌∙◌, arith, slice_get}, lemmas.{Bool.false≢true, Option.slice_get_within}}
-use Rattle.exec_base.specs.declared.{error.Error.Error, one_shot.OneShotState.{OneShotState, TheVariants.{Closed as Shut, Open, Sent as Full}}}
-use Rattle.exec_outcomes.specs.declared.outcome.Outcome.{Outcome}
-use Rattle.exec_request.specs.declared.output.RequestOutput.{RequestOutput}
-use Rattle.exec_task.specs.declared.body.Said.{Said}
-use Rattle.exec_machine.specs.{declared.{event.Event.Event, state.{MailMessage.TheVariants.{ForwardRequest, ForwardTimer}, RequestPhase.{RequestPhase, TheVariants.Resolved}, Waiting.Waiting}}, Tests.is_unsent}
-use Rattle.exec_moves.specs.declared.place.{InPoll.InPoll, Place.Place}
-use Rattle.exec_parts.{specs.{declared.parts.{record.Record.Record, shared.Shared.Shared, sleeping.SleeperRecord.SleeperRecord, task_slot.TaskSlot.TaskSlot, worker.Worker.Worker}, MailPosts.{HasAnswer, HearsEnd, HearsOutput, MayAskEnd, MayAskOutput, MayHearOutput}, Pooled.MaySend, Records.{numbers_held, outcome_in}, Scripts.IsAnswered, Spots.Spot}, proofs.Facts.same_Some}
-use Rattle.exec_invariants.{specs.{Holding.{HasAnswer as HasAnswerIn, awaited_in, box_of, holder_of, holdings, nap_of, outcome_told, thing_of}, Sound.SoundAt, Whole.{HasWhole, hands_of, with_worker}, Works.Steps}, proofs.{AskBoxes.{asks_place, box_there}, AsksEnds.{asks_whom}, Here.{IsHere, going_on}, HoldSteps.{held_there, hold_once}, HoldWaits.held_number, SparedRecord.there_within, TaskHears.{looked_in_vain, output_heard, thing_there}, TaskTakes.{holder_there, nap_there, sleep_taken}, TaskWants.{may_forward, wants_from, held_so}}}
+use Rattle.exec_invariants.{specs.{Holding.{HasAnswer as HasAnswerIn, awaited_in, box_of, holder_of, holdings, nap_of, outcome_told, thing_of}, Sound.SoundAt, Whole.{HasWhole, hands_of, with_worker}, Works.Steps}, proofs.{Words.{◌≡◌, ◌≢◌, inr, ℕ, ◌-◌, ◌<◌, ◌||◌, Bool, true, false, length, map, Option, Some, Result, Ok, Err, refl, sym, ap, subst, ◌∙◌, arith, slice_get, false≢true, slice_get_within, Error, OneShotState, Shut, Open, Full, Outcome, RequestOutput, Said, Event, ForwardRequest, ForwardTimer, RequestPhase, Resolved, Waiting, is_unsent, InPoll, Place, Record, Shared, SleeperRecord, TaskSlot, Worker, HasAnswer, HearsEnd, HearsOutput, MayAskEnd, MayAskOutput, MayHearOutput, MaySend, numbers_held, outcome_in, IsAnswered, Spot, same_Some}, AskBoxes.{asks_place, box_there}, AsksEnds.asks_whom, Here.{IsHere, going_on}, HoldSteps.{held_there, hold_once}, HoldWaits.held_number, SparedRecord.there_within, TaskHears.{looked_in_vain, output_heard, thing_there}, TaskTakes.{holder_there, nap_there, sleep_taken}, TaskWants.{may_forward, wants_from, held_so}}}
 
 resolved_as : (p : RequestPhase) (o : Outcome) → outcome_in p ≡ Some o → p ≡ Resolved o
 resolved_as = grind arith
@@ -25,23 +17,20 @@ module _ {B : Type 0} where
       let whom = asks_whom t z w s it sound has at waits at_z unsent other in
       let at_box = box_there s.seats.items it.shown.worker whom.chair whom.there in
       let room = asks_place (hands_of (with_worker has.others w)) s.config.workers (map holder_of s.tasks.items) (map thing_of s.requests.items) (map nap_of s.sleepers.items) (map box_of s.seats.items) z (nap_of it) (nap_there s.sleepers.items z it at_z) unsent whom.few (box_of whom.chair) at_box whom.open_box has.whole.holding in
-      let may : MaySend it.shown.worker (ForwardTimer z) s = grind arith in
       record {
         known = slice_get_within s.sleepers.items z it at_z;
-        may = λ o found. subst (λ (y : SleeperRecord). MaySend y.shown.worker (ForwardTimer z) s) (same_Some it o (sym at_z ∙ found)) may;
+        may = λ o found. subst (λ (y : SleeperRecord). MaySend y.shown.worker (ForwardTimer z) s) (same_Some it o (sym at_z ∙ found)) (grind arith);
       }
 
   -- the newest that it holds is what it waits for
   pub newest_awaited : (x : InPoll) (t k : ℕ) (w : Worker) (s : Shared B) → (has : HasWhole w s) → (at : IsHere x t w s) → at.slot.waiting ≡ Waiting.Request k → slice_get (numbers_held at.slot.held.items) (length (numbers_held at.slot.held.items) - 1) ≡ Some k
   newest_awaited x t k w s has at waits =
-      let awaiting = has.whole.holding.awaiting t (holder_of at.slot) k (holder_there s.tasks.items t at.slot at.there) (ap awaited_in waits) in
-      awaiting.2.newest (going_on at.slot.cell.phase at.polled)
+      (has.whole.holding.awaiting t (holder_of at.slot) k (holder_there s.tasks.items t at.slot at.there) (ap awaited_in waits)).2.newest (going_on at.slot.cell.phase at.polled)
 
   pub may_ask_output : (x : InPoll) (t k : ℕ) (w : Worker) (s : Shared B) (r : Record) → (sound : SoundAt (Place.Poll t x) w s) → (has : HasWhole w s) → (at : IsHere x t w s) → slice_get (numbers_held at.slot.held.items) (length (numbers_held at.slot.held.items) - 1) ≡ Some k → slice_get s.requests.items k ≡ Some r
       → is_unsent r.shown.forwarding ≡ true → r.shown.worker ≢ w.index → MayAskOutput t k s
   may_ask_output x t k w s r sound has at newest at_k unsent other =
-      let wants = wants_from x t k w s r sound has at newest at_k other in
-      let may = may_forward x t k w s at.slot r has wants at_k unsent in
+      let may = may_forward x t k w s at.slot r has (wants_from x t k w s r sound has at newest at_k other) at_k unsent in
       let may_so : (r : Record) → slice_get s.requests.items k ≡ Some r → MaySend r.shown.worker (ForwardRequest k) s = λ o found. subst (λ (y : Record). MaySend y.shown.worker (ForwardRequest k) s) (same_Some r o (sym at_k ∙ found)) may in
       assumption (slice_get_within s.tasks.items t at.slot at.there, slice_get_within s.requests.items k r at_k, may_so)
 
@@ -50,20 +39,16 @@ module _ {B : Type 0} where
   may_hear_output t k w s r has at waits at_k forwarded =
       let slot = at.slot in
       let hs = map holder_of s.tasks.items in
-      let boxes = map box_of s.seats.items in
-      let holding = has.whole.holding in
       let at_t = holder_there s.tasks.items t slot at.there in
       let at_r = thing_there s.requests.items k r at_k in
-      let awaiting = holding.awaiting t (holder_of slot) k at_t (ap awaited_in waits) in
+      let awaiting = has.whole.holding.awaiting t (holder_of slot) k at_t (ap awaited_in waits) in
       let is : awaiting.0 ≡ thing_of r = same_Some awaiting.0 (thing_of r) (sym awaiting.1 ∙ at_r) in
       let place = length (numbers_held slot.held.items) - 1 in
-      let newest = newest_awaited InPoll.Resume t k w s has at waits in
-      let one = held_number slot.held.items place k newest in
+      let one = held_number slot.held.items place k (newest_awaited InPoll.Resume t k w s has at waits) in
       let some = held_there k slot.held.items place one.0 one.1 one.2 in
-      let least = hold_once k hs t (holder_of slot) at_t in
-      let held : 0 < holdings k hs = omega (arith, some, least) in
-      let box = there_within boxes r.shown.worker (holding.of_worker k (thing_of r) at_r) in
-      let observed = held_so box.0.shut r.shown.observed (holdings k hs) _ held (holding.held k (thing_of r) box.0 at_r box.1) in
+      let held : 0 < holdings k hs = omega (arith, some, hold_once k hs t (holder_of slot) at_t) in
+      let box = there_within (map box_of s.seats.items) r.shown.worker (has.whole.holding.of_worker k (thing_of r) at_r) in
+      let observed = held_so box.0.shut r.shown.observed (holdings k hs) _ held (has.whole.holding.held k (thing_of r) box.0 at_r box.1) in
       let answer : HasAnswerIn slot.output (thing_of r) = subst (λ x. HasAnswerIn slot.output x) is (awaiting.2.answer (ap (λ x. is_unsent x.forwarding) is ∙ forwarded)) in
       let answer_so : (r : Record) → slice_get s.requests.items k ≡ Some r → r.sent ≡ true → HasAnswer t r s = λ o found sent.
       let same : r ≡ o = same_Some r o (sym at_k ∙ found) in
@@ -88,8 +73,7 @@ module _ {B L : Type 0} (left : B → L) (spot : L → Option Said → Spot) (an
   pub end_looked : (t k : ℕ) (w w' : Worker) (s s' : Shared B) (e : Event) (z : SleeperRecord) → (sound : SoundAt (Place.Poll t InPoll.Resume) w s) → HasWhole w s → (it : IsHere InPoll.Resume t w s) → it.slot.waiting ≡ Waiting.Timer k → slice_get s.sleepers.items k ≡ Some z → is_unsent z.shown.forwarding ≡ false
       → HearsEnd t k w w' s s' e → Steps left spot w s e w' s'
   end_looked t k w w' s s' e z sound has it waits at_z forwarded hears =
-      let is : hears.it ≡ z = same_Some hears.it z (sym hears.sleeper ∙ at_z) in
-      by hears.it.sent refl is
+      by hears.it.sent refl (same_Some hears.it z (sym hears.sleeper ∙ at_z))
     where
       by : (b : Bool) → hears.it.sent ≡ b → hears.it ≡ z → Steps left spot w s e w' s'
       by true sent is =
@@ -109,8 +93,7 @@ module _ {B L : Type 0} (left : B → L) (spot : L → Option Said → Spot) (an
   pub output_looked : (t k : ℕ) (w w' : Worker) (s s' : Shared B) (e : Event) (r : Record) → (sound : SoundAt (Place.Poll t InPoll.Resume) w s) → HasWhole w s → (it : IsHere InPoll.Resume t w s) → it.slot.waiting ≡ Waiting.Request k → slice_get s.requests.items k ≡ Some r → is_unsent r.shown.forwarding ≡ false
       → HearsOutput t k w w' s s' e → Steps left spot w s e w' s'
   output_looked t k w w' s s' e r sound has it waits at_k forwarded hears =
-      let is : hears.r ≡ r = same_Some hears.r r (sym hears.request ∙ at_k) in
-      by hears.r.sent refl is
+      by hears.r.sent refl (same_Some hears.r r (sym hears.request ∙ at_k))
     where
       by : (b : Bool) → hears.r.sent ≡ b → hears.r ≡ r → Steps left spot w s e w' s'
       by true sent is =

@@ -1,12 +1,5 @@
 -- A TASK IS OVER BY ITS OWN ACT, be it a root, whose worker closes then, or an ordinary task, which leaves the task set.
-use Rattle.std.proofs.{Common.{◌≡◌, ◌≢◌, ◌⊎◌, inl, inr, ⊎_elim, ℕ, ◌<◌, ◌==◌, Bool, true, false, Contains, List, [], ◌∷◌, ◌++◌, length, map, option_map, option_to_list, Option, Some, None, refl, sym, ap, subst, ◌∙◌, nat_lt, slice_get, slice_set, if◌then◌else◌, IsSome}, lemmas.{Bool.{false≢true, eq-eqb}, List.set-set}}
-use Rattle.std.proofs.Common.{arith}
-use Rattle.exec_base.specs.Slab.{live_count}
-use Rattle.exec_task.specs.{Phases.{is_polled, over as cell_over}, Sight.Sight, declared.{body.{Act.Act, Said.Said}, runnable.Runnable.Runnable}}
-use Rattle.exec_machine.specs.{Choice.Choice.Plain, declared.{config.{Configuration.Configuration, ScriptWord.ScriptWord}, event.Event.Event, state.{Code.Code, Letter.Letter, Next.Next, TaskPhase.TaskPhase, Waiting.Waiting}}, After.{common_after, own_after}, Allowed.allowed, Progress.Plan, Tests.{AllTrue, is_empty}, Tasks.{after_over, may_end_by, own_after_done}, Words.{asks_await, asks_end, asks_fault, moved_on, next_word}, World.{Common, Own, Task, task_of}}
-use Rattle.exec_moves.specs.{declared.{handing.AfterCancels.AfterCancels, place.{InClosing.InClosing, InPoll.InPoll, Place.Place}}, Parts.{after_cancels, cancels_left}, Poll.{after_end, ends as end_moves}, Seen.{next_at, polls_at, serves_at}, State.{Desk, goes}, Told.lets_go_all}
-use Rattle.exec_parts.{specs.{Records.numbers_held, declared.parts.{letters.Letters.Letters, seat.Seat.Seat as Chair, shared.Shared.Shared, task_slot.TaskSlot.TaskSlot, worker.Worker.Worker}, Ending.{EndsTask, LetsGoAll, LetsWaiting, MayEndTask, ended_place, others_of}, Phased.{IsPhased, is_complete, stage_of}, Roles.is_pool, Scripts.{Asks, is_last}, Spots.{Spot, spot_of}, View.{Views, common_of, desk_of, letter_of_request, letter_of_timer, letters_in, own_of, owed_at, task_seen, things_with}}, proofs.Facts.{by_number, not_same, same_Some, set_there}}
-use Rattle.exec_invariants.{specs.{Acting.{HasActed, Performs, PerformsOne, StepsOf}, Gates.AreLinedUp, Holding.{MayHave, awaited_in, holder_of}, HoldPlaces.sends_cancel_at, Places.removes_at, Sound.{AreHome, AreResting, HasLetters, HasRunnable, IsGuest, IsHeld, IsRunnable, IsTied, SoundAt, Stands, is_told, one_of, served_in}, Whole.{HasWhole, IsGenuine}, Works.{Suits, Works}}, proofs.{Acting.{IsPlainWord, acted_slot, actor, acts_so, move_by, moves_so}, Here.{IsHere, polled_here}, Onces.leaves_none, Pending.polled_none, Performing.still_performs, Phased.phased_over, Polling.on_in_poll, ServingHolds.Keeps, Slots.task_there, SlotTasks.{Keeps as KeepsSlot, Tasked, guest_pool, guest_tasked, homes_set, none_in, resting_set, sound_tasked}, TaskOverFold.{AllLet, HoldsAll, LetsSeen, let_all}, TaskOverGone.{AllGone, gone_awake}, TaskOverLetters.{AreLetters, letters_fit, no_letters, none_left}, TaskOverMay.{HasAll, has_all, keeps_tasks, may_let_go}, TaskOverPolls.{OversPoll, acting, beside_over, gone_at, over_shared, over_worker, sound_over}, TaskOverSeen.{common_then, desk_then, own_then, things_then}, TaskOverSound.{IsAside, IsOwing, own_keeps}, TaskOverWhole.{IsDone, IsPast}, TaskOverPlaces.{closes_past, closes_aside, removes_past, removes_aside, tells_past, tells_removing, owes_removing, IsQuiet, others_none, waits_word, stopped_so, waits_there, ltb-true}}}
+use Rattle.exec_invariants.{specs.{Acting.{HasActed, Performs, PerformsOne, StepsOf}, Gates.AreLinedUp, Holding.{MayHave, awaited_in, holder_of}, HoldPlaces.sends_cancel_at, Places.removes_at, Sound.{AreHome, AreResting, HasLetters, HasRunnable, IsGuest, IsHeld, IsRunnable, IsTied, SoundAt, Stands, is_told, one_of, served_in}, Whole.{HasWhole, IsGenuine}, Works.{Suits, Works}}, proofs.{Words.{◌≡◌, ◌≢◌, ◌⊎◌, inl, inr, ⊎_elim, ℕ, ◌<◌, ◌==◌, Bool, true, false, Contains, List, [], ◌∷◌, ◌++◌, length, map, option_map, option_to_list, Option, Some, None, refl, sym, ap, subst, ◌∙◌, nat_lt, slice_get, slice_set, if◌then◌else◌, IsSome, false≢true, eq-eqb, set-set, arith, live_count, is_polled, cell_over, Sight, Act, Said, Runnable, Plain, Configuration, ScriptWord, Event, Code, Letter, Next, TaskPhase, Waiting, common_after, own_after, allowed, Plan, AllTrue, is_empty, after_over, may_end_by, own_after_done, asks_await, asks_end, asks_fault, moved_on, next_word, Common, Own, Task, task_of, AfterCancels, InClosing, InPoll, Place, after_cancels, cancels_left, after_end, end_moves, next_at, polls_at, serves_at, Desk, goes, lets_go_all, numbers_held, Letters, Chair, Shared, TaskSlot, Worker, EndsTask, LetsGoAll, LetsWaiting, MayEndTask, ended_place, others_of, IsPhased, is_complete, stage_of, is_pool, AsksOf as Asks, is_last, Spot, spot_of, Views, common_of, desk_of, letter_of_request, letter_of_timer, letters_in, own_of, owed_at, task_seen, things_with, by_number, not_same, same_Some, set_there}, Acting.{IsPlainWord, acted_slot, actor, acts_so, move_by, moves_so}, Here.{IsHere, polled_here}, Onces.leaves_none, Pending.polled_none, Performing.still_performs, Phased.phased_over, Polling.on_in_poll, ServingHolds.Keeps, Slots.task_there, SlotTasks.{Keeps as KeepsSlot, Tasked, guest_pool, guest_tasked, homes_set, none_in, resting_set, sound_tasked}, TaskOverFold.{AllLet, HoldsAll, LetsSeen, let_all}, TaskOverGone.{AllGone, gone_awake}, TaskOverLetters.{AreLetters, letters_fit, no_letters, none_left}, TaskOverMay.{HasAll, has_all, keeps_tasks, may_let_go}, TaskOverPolls.{OversPoll, acting, beside_over, gone_at, over_shared, over_worker, sound_over}, TaskOverSeen.{common_then, desk_then, own_then, things_then}, TaskOverSound.{IsAside, IsOwing, own_keeps}, TaskOverWhole.{IsDone, IsPast}, TaskOverPlaces.{closes_past, closes_aside, removes_past, removes_aside, tells_past, tells_removing, owes_removing, IsQuiet, others_none, waits_word, stopped_so, waits_there, ltb-true}}}
 
 -- it is told nothing once it is over
 pub over_untold : (u : Waiting) → is_told u true ≡ false
@@ -17,10 +10,9 @@ pub split_left : (b : AfterCancels) (d : Desk) (ls : List Letter) → ((ls ≡ [
 split_left b d [] = inl (refl, refl)
 split_left b d (l ∷ ls) = inr (refl, refl)
 
-module _ {B : Type 0} where
-  run_over : (o : Option Runnable) (slot slot' : TaskSlot B) → is_polled slot.cell.phase ≡ true → is_complete slot'.cell.phase ≡ true → IsRunnable o slot → IsRunnable o slot'
-  run_over None slot slot' before over run = λ b is. absurd (false≢true (sym (ap is_complete is) ∙ over))
-  run_over (Some r) slot slot' before over run = absurd (false≢true (sym (ap is_polled run.1.1) ∙ before))
+run_over : {B : Type 0} (o : Option Runnable) (slot slot' : TaskSlot B) → is_polled slot.cell.phase ≡ true → is_complete slot'.cell.phase ≡ true → IsRunnable o slot → IsRunnable o slot'
+run_over None slot slot' before over run = λ b is. absurd (false≢true (sym (ap is_complete is) ∙ over))
+run_over (Some r) slot slot' before over run = absurd (false≢true (sym (ap is_polled run.1.1) ∙ before))
 
 module _ {B L : Type 0} (left : B → L) (runs : L → Plan → Option ℕ → Type 0) (holds : L → Option Said → List ℕ) (spot : L → Option Said → Spot) (gives : L → Option Sight → Said → Act B → L → Option Sight → Type 0) where
   -- the act is this word, by which the task is over with this event
@@ -167,9 +159,8 @@ module _ {B L : Type 0} (left : B → L) (runs : L → Plan → Option ℕ → T
       overs : IsPast (ended_place t it.v) → IsAside (ended_place t it.v) → ((u : ℕ) → removes_at (ended_place t it.v) ≡ Some u → (u ≡ t) × (h.made.slot.home ≡ None)) → OversPoll InPoll.Act t (ended_place t it.v) it.v.letters w it.lets.v s (record it.lets.now { tasks = s.tasks }) s' h.made.slot over_slot
       overs past aside removes =
           let holder = ap (λ hs. record (holder_of h.made.slot) { held = hs; over = true }) it.lets.none in
-          let poller = ap (λ (o : TaskSlot B). o.poller) (sym here_is) ∙ here.poller in
           let idle : IsSome h.made.slot.home → awaited_in h.made.slot.waiting ≡ None = λ some. ap awaited_in waits in
-          assumption (items, done, holder, polled, poller, home, idle, gone, past, aside, removes, h.made)
+          assumption (items, done, holder, polled, ap (λ (o : TaskSlot B). o.poller) (sym here_is) ∙ here.poller, home, idle, gone, past, aside, removes, h.made)
 
       -- what the machine makes of it
 
@@ -206,7 +197,6 @@ module _ {B L : Type 0} (left : B → L) (runs : L → Plan → Option ℕ → T
           let c = common_of left spot p vs s in
           let seen_slot = task_seen left spot h.made.slot in
           let W : Worker = over_worker q' it.v.letters it.lets.v w in
-          let S : Shared B = over_shared s'.tasks.items s' (record it.lets.now { tasks = s.tasks }) s in
           let wq : Worker = record w { place = Place.Poll t InPoll.Act } in
           let here_w : wq ≡ w = ap (λ y. record w { place = y }) (sym h.sound.here) in
           let so = h.asks p vs fits in
@@ -219,7 +209,7 @@ module _ {B L : Type 0} (left : B → L) (runs : L → Plan → Option ℕ → T
           let desk_all : end_moves w.index t c seen_slot (desk_of wq) ≡ desk_of W =
           ap (λ d. goes (after_end t h.made.slot.home d) d) desk ∙ ap (λ y. goes y (desk_of it.v)) place ∙ ap (λ (y : Worker). desk_of (record y { place = q' })) (v_is ∙ ap (λ (y : Worker). record y { letters = it.v.letters }) gone.worker) in
           let things = things_then left spot p vs t q' it.v.letters w it.lets.v s (record it.lets.now { tasks = s.tasks }) s' h.made.slot over_slot suits h.made.there items gone in
-          subst (λ y. Works left spot p vs y s e W S) here_w (record {
+          subst (λ y. Works left spot p vs y s e W (over_shared s'.tasks.items s' (record it.lets.now { tasks = s.tasks }) s)) here_w (record {
             choice = Plain;
             moves = grind (arith, moves_so left spot t p c w s vs h.made.slot x is_end.plain at_task word, is_end.moves p c w s vs seen_slot, desk_all, things);
             may = subst AllTrue (sym (is_end.allows p (own_of wq) c w.index)) (eq-eqb t t refl, (acts_so left spot t c w h.made.slot is_end.test at_task waits (ap is_end.test word ∙ is_end.passes), tt));
@@ -256,13 +246,12 @@ module _ {B L : Type 0} (left : B → L) (runs : L → Plan → Option ℕ → T
       -- the root of any of the pool but worker zero is over only once the pool is stopped
       stopped_by : PerformsOne left runs holds s → t ≡ w.root → 0 < w.index → w.index < s.config.workers → s.stopped ≡ true
       stopped_by one same some few =
-          let p = one.0 in
           let vs : Views = record { workers = []; calls = [] } in
-          let c = common_of left spot p vs s in
+          let c = common_of left spot one.0 vs s in
           let it = task_seen left spot h.made.slot in
-          let so = h.asks p vs (one.2 t h.made.slot h.made.there) in
-          let is : next_word c it ≡ x = is_end.word p.config w.moments.sampled (numbers_held h.made.slot.held.items) (next_word c it) so.asks in
-          let code : it.code ≡ Code.Waits = waits_there p.config.workers w.index h.made.slot.home it.code (root_home same) some (subst (λ y. w.index < y.workers) one.1 few) so.code in
+          let so = h.asks one.0 vs (one.2 t h.made.slot h.made.there) in
+          let is : next_word c it ≡ x = is_end.word one.0.config w.moments.sampled (numbers_held h.made.slot.held.items) (next_word c it) so.asks in
+          let code : it.code ≡ Code.Waits = waits_there one.0.config.workers w.index h.made.slot.home it.code (root_home same) some (subst (λ y. w.index < y.workers) one.1 few) so.code in
           stopped_so s.stopped x is_end.waits (sym (waits_word c it code) ∙ is)
 
       root_first : PerformsOne left runs holds s → t ≡ w.root → SoundAt (Place.Closing InClosing.Close) (record w { place = Place.Closing InClosing.Close }) (record s { tasks = s'.tasks })
@@ -290,8 +279,7 @@ module _ {B L : Type 0} (left : B → L) (runs : L → Plan → Option ℕ → T
           let letters : HasLetters false false w.index s.config.workers w.letters s.requests.items s.sleepers.items = record { some = λ never. absurd (false≢true never); none = λ silent. none; requests = sound.letters.requests; timer = sound.letters.timer } in
           let tied : IsTied None w.index w.root s'.tasks.items = record {
             stands = λ o at.
-                let is : over_slot ≡ o = same_Some over_slot o (sym found ∙ at) in
-                subst (Stands None w.index) is (grind (arith, false, true, stands.uncleared, over_untold, slot.waiting));
+                subst (Stands None w.index) (same_Some over_slot o (sym found ∙ at)) (grind (arith, false, true, stands.uncleared, over_untold, slot.waiting));
           } in
           let phased : (chair : Chair) → slice_get s.seats.items w.index ≡ Some chair → IsPhased w.index false (Some InClosing.Close) w.home.closing w.root w.names.unreleased (stage_of chair s) s'.tasks.items = λ chair at.
           let pool_is : chair.pool ≡ nat_lt w.index s.config.workers = ap (λ (y : Chair). y.pool) (same_Some chair sound.seated.seat (sym at ∙ sound.seated.there)) ∙ sound.seated.pool in

@@ -1,11 +1,5 @@
 -- A TASK THAT IS OVER lets go of all requests that it held, one after another: what its worker has then, and what is seen of it.
-use Rattle.std.proofs.{Common.{◌≡◌, ◌≢◌, ℕ, zero, suc, ◌+◌, ◌<◌, ◌≤◌, ◌==◌, Bool, true, false, not, cond, filter, List, [], ◌∷◌, ◌++◌, count_by, map, Some, None, refl, sym, ap, subst, ◌∙◌, arith, append_assoc, slice_get, slice_index_or, slice_set, if◌then◌else◌}, lemmas.{Bool.{false≢true, eq-eqb}, List.{append-nil, Sums.sum_by-cons}, Option.get_or_from_slice_get}}
-use Rattle.exec_outcomes.specs.{Accounts.is_durable}
-use Rattle.exec_machine.specs.{declared.state.{Letter.Letter, Request.Request, RequestPhase.{RequestPhase, TheVariants.{Resolved}}}, Requests.{dropped, ends_by_drop, own_after_drop}, Tasks.{own_after_drops, owes as owes_letter, requests_after_drops}, Tests.{is_queued, is_resolved}, World.{Common, Own, no_request, request_of}}
-use Rattle.exec_moves.specs.{State.Desk, Told.{lets_go_request, lets_go_requests, told_of_drop}}
-use Rattle.exec_parts.{specs.{declared.parts.{held.Held.Held, record.Record.Record, shared.Shared.Shared, worker.Worker.Worker}, Awaits.{LetsGo, drops}, Ending.{LetsGoAll, LetsGoOne.{here, elsewhere}, others_of}, Records.numbers_held, Serving.{changed_at, changed_in}, View.{desk_of, letter_of_request, own_of, visible}}, proofs.Facts.{by_number, not_same, same_Some, set_elsewhere, set_there}}
-use Rattle.exec_invariants.proofs.Showing.{map_set}
-use Rattle.exec_invariants.{specs.{Gates.{AreLinedUp}, Holding.thing_of, Sound.served_in}, proofs.{HoldRedo.count_set, HoldSteps.held_in, Keys.{name_in, names_changed}, Lined.{KeepsLines, SameAtGate, lined_kept, lines_changed, lines_on, lines_same, mapped}, ServingHolds.Keeps, TaskOverHolds.{LetsThing, things_then, thing_same}}}
+use Rattle.exec_invariants.{specs.{Gates.AreLinedUp, Holding.thing_of, Sound.served_in}, proofs.{Words.{◌≡◌, ◌≢◌, ℕ, zero, suc, ◌+◌, ◌<◌, ◌≤◌, ◌==◌, Bool, true, false, not, cond, filter, List, [], ◌∷◌, ◌++◌, count_by, map, Some, None, refl, sym, ap, subst, ◌∙◌, arith, append_assoc, slice_get, slice_index_or, slice_set, if◌then◌else◌, false≢true, eq-eqb, append-nil, sum_by-cons, get_or_from_slice_get, is_durable, Letter, Request, RequestPhase, Resolved, dropped, ends_by_drop, own_after_drop, own_after_drops, owes_letter, requests_after_drops, is_phase_queued as is_queued, is_resolved, Common, Own, no_request, request_of, Desk, lets_go_request, lets_go_requests, told_of_drop, Held, Record, Shared, Worker, LetsGo, drops, LetsGoAll, here, elsewhere, others_of, numbers_held, changed_at, changed_in, desk_of, letter_of_request, own_of, visible, by_number, not_same, same_Some, set_elsewhere, set_there}, Showing.map_set, HoldRedo.count_set, HoldSteps.held_in, Keys.{name_in, names_changed}, Lined.{KeepsLines, SameAtGate, lined_kept, lines_changed, lines_on, lines_same, mapped}, ServingHolds.Keeps, TaskOverHolds.{LetsThing, things_then, thing_same}}}
 
 -- ONE REQUEST that nobody holds any more
 
@@ -87,20 +81,17 @@ SeesAll all hs rs = (j : ℕ) (x : Held) (r : Record) → slice_get hs j ≡ Som
 -- another than the first
 later_apart : (h : Held) (hs : List Held) → ((k : ℕ) → held_in k (h ∷ hs) ≤ 1) → (j : ℕ) (x : Held) → slice_get hs j ≡ Some x → x.number ≢ h.number
 later_apart h hs once j x at same =
-    let first = held_first h.number h hs in
     let unit : ℕ = 1 in
     let one : cond (h.number == h.number) 1 0 ≡ unit = ap (λ b. cond b 1 0) (eq-eqb h.number h.number refl) in
-    let some : 0 < held_in h.number hs = counted hs j at in
-    omega (arith, once h.number, first, one, some)
+    omega (arith, once h.number, held_first h.number h hs, one, counted hs j at)
   where
     counted : (ys : List Held) (n : ℕ) → slice_get ys n ≡ Some x → 0 < held_in h.number ys
     counted [] n at = absurd (cc)
     counted (y ∷ ys) zero at =
         let is : y ≡ x = cc in
-        let sums = held_first h.number y ys in
         let unit : ℕ = 1 in
         let one : cond (y.number == h.number) 1 0 ≡ unit = ap (λ (z : Held). cond (z.number == h.number) 1 0) is ∙ ap (λ b. cond b 1 0) (eq-eqb x.number h.number same) in
-        omega (arith, sums, one)
+        omega (arith, held_first h.number y ys, one)
     counted (y ∷ ys) (suc n) at = let sums = held_first h.number y ys in let rest = counted ys n at in omega (arith, sums, rest)
 
 pub later_once : (h : Held) (hs : List Held) → ((k : ℕ) → held_in k (h ∷ hs) ≤ 1) → (k : ℕ) → held_in k hs ≤ 1
@@ -143,8 +134,7 @@ module _ {B : Type 0} where
   left_out i h hs w v s now other holds ih =
       let k = h.number in
       let it = holds.there 0 h refl in
-      let theirs : it.0.shown.worker ≢ i = λ is. other (sym it.2 ∙ is) in
-      let never : (it.0.shown.worker == i) ≡ false = not_same it.0.shown.worker i theirs in
+      let never : (it.0.shown.worker == i) ≡ false = not_same it.0.shown.worker i (λ is. other (sym it.2 ∙ is)) in
       let shown : List Request = map (λ (r : Record). r.shown) s.requests.items in
       let q_is : slice_index_or shown k no_request ≡ it.0.shown = get_or_from_slice_get shown k it.0.shown no_request (mapped (λ (r : Record). r.shown) s.requests.items k it.0 it.1) in
       let later : (all : Common) → SeesAll all (h ∷ hs) s.requests.items → SeesAll all hs s.requests.items = λ all sees j. sees (suc j) in
@@ -269,13 +259,11 @@ module _ {B : Type 0} where
   let_all i (h ∷ hs) w v s now seen index idle gates keeps holds (u, mid, one, rest) =
       elim one [
         | here mine lets ↦
-            let mine_i : h.worker ≡ i = mine ∙ index in
             let it = holds.there 0 h refl in
             let same : lets.r ≡ it.0 = same_Some lets.r it.0 (sym lets.request ∙ it.1) in
             let of_w : lets.r.shown.worker ≡ w.index = ap (λ (x : Record). x.shown.worker) same ∙ it.2 ∙ mine in
-            let observed : lets.r.shown.observed ≡ true = ap (λ (x : Record). x.shown.observed) same ∙ it.3 in
-            let step = seen h.number w u s mid idle gates keeps lets of_w observed in
-            let_go_too i h hs w u v s mid now index mine_i lets holds step
+            let step = seen h.number w u s mid idle gates keeps lets of_w (ap (λ (x : Record). x.shown.observed) same ∙ it.3) in
+            let_go_too i h hs w u v s mid now index (mine ∙ index) lets holds step
             (let_all i hs u v mid now seen (ap (λ (x : Worker). x.index) lets.worker ∙ index) (ap (λ (x : Worker). served_in x.place) lets.worker ∙ idle) (gates_later h.number w u s mid lets gates) step.keeps (holds_later h hs w u s mid lets holds) rest)
         | elsewhere other worker shared ↦
             let holds_too : HoldsAll hs s.requests.items = record { there = λ j. holds.there (suc j); once = later_once h hs holds.once } in

@@ -1,13 +1,6 @@
 -- A TASK IS OVER: its worker lets go of what it has of what that held and slept for, and has letters of the rest. What it has then,
 -- and what is seen of it.
-use Rattle.std.proofs.{Common.{◌≡◌, ◌≢◌, inr, ℕ, ◌==◌, ◌||◌, Bool, true, false, not, List, [], ◌∷◌, ◌++◌, count_by, map, option_map, option_to_list, Option, Some, None, refl, sym, ap, subst, ◌∙◌, slice_get, slice_index_or, slice_set, if◌then◌else◌}, lemmas.{Bool.eq-eqb, List.{append-nil, append_assoc}, Option.get_or_from_slice_get}}
-use Rattle.std.proofs.Common.{arith}
-use Rattle.exec_machine.specs.{declared.state.{Letter.Letter, MailMessage.TheVariants.CancelTimer, Sleeper.Sleeper, Waiting.Waiting}, Tasks.{own_after_drops, own_after_waking_up, owes as owes_letter, removed as removed_sleeper, requests_after_drops, sleepers_after_waking_up}, World.{Common, Own, no_sleeper, sleeper_of}}
-use Rattle.exec_moves.specs.{State.Desk, Told.{lets_go_requests, lets_go_sleep, lets_go_timer, told_of_cancel}}
-use Rattle.exec_parts.{specs.{declared.parts.{held.Held.Held, letters.Letters.Letters, record.Record.Record, shared.Shared.Shared, sleeping.SleeperRecord.SleeperRecord, worker.Worker.Worker}, Calls.sleeper_removed, Ending.{LetsGoAll, LetsWaiting, others_of}, MailTakes.RemovesSleeper, Records.numbers_held, View.{desk_of, letter_of_request, letter_of_timer, letters_in, own_of, visible}}, proofs.Facts.{by_number, not_same, same_Some, set_elsewhere, set_there}}
-use Rattle.exec_invariants.proofs.Showing.{map_kept, map_set}
-use Rattle.exec_invariants.{specs.{Gates.AreLinedUp, Holding.{awaited_in, nap_of, thing_of}, Sound.served_in, Spares.SleeperEndures}, proofs.{HoldRedo.{count_set, set_on, set_back}, Keys.name_in, Lined.{KeepsLines, mapped, opens_same, now}, ServingHolds.Keeps, Serving.SparesRecords, Spared.sleepers_endure, TaskOverFold.{AllLet, HoldsAll, LetsSeen, SeesAll, let_all, letters_for, own_in}, TaskOverHolds.{LetsNap, LetsThing, nap_same}}}
-use Rattle.exec_parts.specs.declared.parts.mail.Subject.TheVariants as subject
+use Rattle.exec_invariants.{specs.{Gates.AreLinedUp, Holding.{awaited_in, nap_of, thing_of}, Sound.served_in, Spares.SleeperEndures}, proofs.{Words.{◌≡◌, ◌≢◌, inr, ℕ, ◌==◌, ◌||◌, Bool, true, false, not, List, [], ◌∷◌, ◌++◌, count_by, map, option_map, option_to_list, Option, Some, None, refl, sym, ap, subst, ◌∙◌, slice_get, slice_index_or, slice_set, if◌then◌else◌, eq-eqb, append-nil, append_assoc, get_or_from_slice_get, arith, Letter, CancelTimer, Sleeper, Waiting, own_after_drops, own_after_waking_up, owes_letter, removed_sleeper, requests_after_drops, sleepers_after_waking_up, Common, Own, no_sleeper, sleeper_of, Desk, lets_go_requests, lets_go_sleep, lets_go_timer, told_of_cancel, Held, Letters, Record, Shared, SleeperRecord, Worker, sleeper_removed, LetsGoAll, LetsWaiting, others_of, RemovesSleeper, numbers_held, desk_of, letter_of_request, letter_of_timer, letters_in, own_of, visible, by_number, not_same, same_Some, set_elsewhere, set_there, subject}, Showing.{map_kept, map_set}, HoldRedo.{count_set, set_on, set_back}, Keys.name_in, Lined.{KeepsLines, mapped, opens_same, now}, ServingHolds.Keeps, Serving.SparesRecords, Spared.sleepers_endure, TaskOverFold.{AllLet, HoldsAll, LetsSeen, SeesAll, let_all, letters_for, own_in}, TaskOverHolds.{LetsNap, LetsThing, nap_same}}}
 
 -- the letters are those of requests, and of a sleeper where there is one
 letters_are : (i : ℕ) (hs : List Held) (l : Letters) (o : Option Held) → l.requests.items ≡ others_of i hs → l.timer ≡ o → letters_in l ≡ letters_for i hs ++ option_to_list (option_map letter_of_timer o)
@@ -136,7 +129,6 @@ module _ {B : Type 0} where
       let looks : (all : Common) → all.sleepers ≡ map (λ (y : SleeperRecord). y.shown) ss → sleeper_of all z ≡ it.shown = λ all is.
       ap (λ zs. slice_index_or zs z no_sleeper) is ∙ get_or_from_slice_get (map (λ (y : SleeperRecord). y.shown) ss) z it.shown no_sleeper (mapped (λ (y : SleeperRecord). y.shown) ss z it there) in
       let letters : letters_in l ≡ letters_for i hs = letters_are i hs l None requests none ∙ append-nil (letters_for i hs) in
-      let of_own : own_of u ≡ own_of v = ap own_of r.worker in
       record {
         keeps = seen.keeps;
         worker = grind (arith, r.worker, a.worker);
@@ -151,7 +143,7 @@ module _ {B : Type 0} where
             let me : Own = record (own_of v) { owed = owed ++ letters_for i hs } in
             ap (own_after_waking_up all i (Waiting.Timer z)) (a.own all sees owed)
             ∙ ap (λ (y : Sleeper). if y.worker == i then me else owes_letter me y.worker (record { to = y.worker; message = CancelTimer z })) (looks all is) ∙ ap (λ b. if b then me else owes_letter me it.shown.worker (record { to = it.shown.worker; message = CancelTimer z })) always
-            ∙ ap (λ (x : Own). record x { owed = owed ++ letters_for i hs }) (sym of_own) ∙ ap (λ xs. record (own_of u) { owed = owed ++ xs }) (sym letters);
+            ∙ ap (λ (x : Own). record x { owed = owed ++ letters_for i hs }) (sym (ap own_of r.worker)) ∙ ap (λ xs. record (own_of u) { owed = owed ++ xs }) (sym letters);
         desk = λ all sees is ls.
             let d : Desk = record (desk_of v) { letters = ls ++ letters_for i hs } in
             ap (lets_go_sleep i all (Waiting.Timer z)) (a.desk all sees ls)
@@ -172,8 +164,7 @@ module _ {B : Type 0} where
               let apart : k ≢ z = λ is. other (ap (λ (y : SleeperRecord). y.shown.worker) (same_Some x it (sym at ∙ ap (slice_get ss) is ∙ there)) ∙ mine) in
               beside k apart ∙ at;
           sleepers_only = λ k x at other.
-              let apart : k ≢ z = λ is. other (ap (λ (y : SleeperRecord). y.shown.worker) (same_Some x it' (sym at ∙ ap (slice_get after.sleepers.items) is ∙ now_there)) ∙ mine) in
-              sym (beside k apart) ∙ at;
+              sym (beside k (λ is. other (ap (λ (y : SleeperRecord). y.shown.worker) (same_Some x it' (sym at ∙ ap (slice_get after.sleepers.items) is ∙ now_there)) ∙ mine))) ∙ at;
           lines = subst (KeepsLines s.requests.items) (sym items) a.lines;
           naps = set_on (λ n. SleeperEndures) ss after.sleepers.items z it it' there sleepers (record { worker = refl; forwarded = λ h. h }) (λ n x. record { worker = refl; forwarded = λ h. h });
           opens = opens_same s.opens after.opens s.requests.items lined (ap (λ (x : Shared B). x.opens) r.kept ∙ ap (λ (x : Shared B). x.opens) a.kept);
@@ -212,6 +203,5 @@ module _ {B : Type 0} where
           still (Waiting.Timer z) it.0 it.1 (gone_asleep i z hs l sleeps.it w v s now lined a requests there other it.2))
           (λ mine.
           let it = sleeps.here (mine ∙ sym index_then) in
-          let same : it.0.it ≡ sleeps.it = same_Some it.0.it sleeps.it (sym it.0.sleeper ∙ sleeps.sleeper) in
-          let of_i : it.0.it.shown.worker ≡ i = ap (λ (y : SleeperRecord). y.shown.worker) same ∙ mine in
+          let of_i : it.0.it.shown.worker ≡ i = ap (λ (y : SleeperRecord). y.shown.worker) (same_Some it.0.it sleeps.it (sym it.0.sleeper ∙ sleeps.sleeper)) ∙ mine in
           gone_removed i z hs l w v x s now after lined a requests it.1 it.0 of_i (removes z v x now after (ap (λ (y : Worker). served_in y.place) a.worker ∙ idle) a.keeps it.0 (of_i ∙ sym index_then)))

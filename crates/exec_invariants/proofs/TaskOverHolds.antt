@@ -1,13 +1,6 @@
 -- WHAT TASKS HOLD, once a task is over: what it held of the worker that ends it is let go, and messages say of all else that
 -- nobody holds it any more. All of it at once, in any order.
-use Rattle.std.proofs.{Common.{◌≡◌, ◌⊎◌, inl, inr, ⊎_elim, ℕ, zero, suc, ◌+◌, ◌<◌, ◌≤◌, ◌==◌, ◌&&◌, ◌||◌, Bool, true, false, not, cond, List, [], count_by, length, sum_by, Option, Some, None, IsSome, is_some, Result, refl, sym, ap, subst, ◌∙◌, arith, slice_get, slice_set}, lemmas.Bool.false≢true}
-use Rattle.exec_base.specs.declared.{error.Error.Error, one_shot.OneShotState.{OneShotState}}
-use Rattle.exec_request.specs.declared.output.RequestOutput.{RequestOutput}
-use Rattle.exec_machine.specs.Tests.{is_unsent}
-use Rattle.exec_words.specs.declared.inbox.Message.{Message}
-use Rattle.exec_parts.{specs.declared.parts.{held.Held.Held, mail.Subject.Subject}, proofs.Facts.{by_number, same_Some, set_elsewhere, set_there}}
-use Rattle.exec_invariants.{specs.{Places.one_if, Holding.{Awaits, Box, Hands, HasAnswer, Holder, IsAbout, IsDue, IsForwarded, IsHeldBy, IsHolding, IsOf, IsOrdinary, IsOwed, Mail, MayHave, Nap, Owes, Thing, holdings, is_awaited_by, mail_in, under_way, waiters}}, proofs.{HoldRedo.sum_set, HoldSteps.{awaits_on, held_in, homes_on}}}
-use Rattle.exec_parts.specs.declared.parts.mail.Subject.TheVariants as subject
+use Rattle.exec_invariants.{specs.{Places.one_if, Holding.{Awaits, Box, Hands, HasAnswer, Holder, IsAbout, IsDue, IsForwarded, IsHeldBy, IsHolding, IsOf, IsOrdinary, IsOwed, Mail, MayHave, Nap, Owes, Thing, holdings, is_awaited_by, mail_in, under_way}}, proofs.{Words.{◌≡◌, ◌⊎◌, inl, inr, ⊎_elim, ℕ, zero, suc, ◌+◌, ◌<◌, ◌≤◌, ◌==◌, ◌&&◌, ◌||◌, Bool, true, false, not, cond, List, [], count_by, length, sum_by, Option, Some, None, IsSome, is_some, Result, refl, sym, ap, subst, ◌∙◌, arith, slice_get, slice_set, false≢true, Error, OneShotState, RequestOutput, is_unsent, Message, Held, Subject, by_number, same_Some, set_elsewhere, set_there, subject}, HoldRedo.sum_set, HoldSteps.{awaits_on, held_in, homes_on}}}
 
 -- A request then, which the task held so often of the worker: nobody holds it any more, and it may have ended by that.
 pub record LetsThing (own : ℕ) (r r' : Thing) : Type 0 where
@@ -90,11 +83,10 @@ module _ (h h' : Hands) (workers : ℕ) (hs : List Holder) (ts ts' : List Thing)
       record {
         held = λ k x box at at_box.
             let was = by.things_back k x at in
-            let r = was.0 in
-            let box_of_it : slice_get boxes r.worker ≡ Some box = ap (slice_get boxes) (sym was.2.worker) ∙ at_box in
+            let box_of_it : slice_get boxes was.0.worker ≡ Some box = ap (slice_get boxes) (sym was.2.worker) ∙ at_box in
             let rest : holdings k hs' + held_in k it.held ≡ holdings k hs + 0 = sum_set (λ (y : Holder). held_in k y.held) hs t it it' by.there ∙ ap (λ (y : Holder). holdings k hs + held_in k y.held) by.ends in
-            held_then box.shut (own k) (others k) r.observed x.observed (holdings k hs) (holdings k hs') (held_in k it.held) (under_way h (Message.Cancel (subject.Request k)) boxes) (under_way h' (Message.Cancel (subject.Request k)) boxes)
-            (by.all k) rest (more_way (Message.Cancel (subject.Request k)) (others k) (by.cancels k)) was.2.observed was.2.gone (old.held k r box was.1 box_of_it);
+            held_then box.shut (own k) (others k) was.0.observed x.observed (holdings k hs) (holdings k hs') (held_in k it.held) (under_way h (Message.Cancel (subject.Request k)) boxes) (under_way h' (Message.Cancel (subject.Request k)) boxes)
+            (by.all k) rest (more_way (Message.Cancel (subject.Request k)) (others k) (by.cancels k)) was.2.observed was.2.gone (old.held k was.0 box was.1 box_of_it);
         forwarded = λ k x box at at_box.
             let was = by.things_back k x at in
             let box_of_it : slice_get boxes was.0.worker ≡ Some box = ap (slice_get boxes) (sym was.2.worker) ∙ at_box in
@@ -167,11 +159,8 @@ module _ (h h' : Hands) (workers : ℕ) (hs : List Holder) (ts ts' : List Thing)
                     (λ same. same ∙ a.2.kept still)
                     (λ its.
                     let b = old.asleep t it n by.there its in
-                    let same : a.0 ≡ b.0 = same_Some a.0 b.0 (sym a.1 ∙ b.1) in
-                    let u_is : u ≡ t = sym a.2.task ∙ ap (λ (z : Nap). z.task) same ∙ b.2.task in
-                    let now_is : slice_get hs' u ≡ Some it' = ap (slice_get hs') u_is ∙ now_there in
-                    let over_is : o.over ≡ true = ap (λ (y : Holder). y.over) (same_Some o it' (sym at_u ∙ now_is) ∙ by.ends) in
-                    absurd (false≢true (sym still ∙ over_is)))
+                    let u_is : u ≡ t = sym a.2.task ∙ ap (λ (z : Nap). z.task) (same_Some a.0 b.0 (sym a.1 ∙ b.1)) ∙ b.2.task in
+                    absurd (false≢true (sym still ∙ (ap (λ (y : Holder). y.over) (same_Some o it' (sym at_u ∙ (ap (slice_get hs') u_is ∙ now_there)) ∙ by.ends)))))
                     now.2.only;
               },
             ));
@@ -188,15 +177,12 @@ module _ (h h' : Hands) (workers : ℕ) (hs : List Holder) (ts ts' : List Thing)
             (awaits_then (subject.Timer n) was.0.task (old.sleeps n was.0 was.1 (sym was.2.fired ∙ unfired) (unremoved (it.awaits ≡ Some (subject.Timer n)) was.0 x was.2 kept)));
         let_go = λ n x box at at_box open_box.
             let was = by.naps_back n x at in
-            let box_of_it : slice_get boxes was.0.worker ≡ Some box = ap (slice_get boxes) (sym was.2.worker) ∙ at_box in
-            let fact = old.let_go n was.0 box was.1 box_of_it open_box in
             let way = more_way (Message.Cancel (subject.Timer n)) (told n) (by.removes n) in
             let weigh : Holder → ℕ = λ y. cond (not y.over && is_awaited_by (subject.Timer n) y.awaits) 1 0 in
-            let sums : waiters (subject.Timer n) hs' + weigh it ≡ waiters (subject.Timer n) hs + weigh it' = sum_set weigh hs t it it' by.there in
             let gone : weigh it' ≡ 0 = ap weigh by.ends in
             let had : weigh it ≡ one_if (is_awaited_by (subject.Timer n) it.awaits) = ap (λ b. cond (not b && is_awaited_by (subject.Timer n) it.awaits) 1 0) by.going ∙ weighs (is_awaited_by (subject.Timer n) it.awaits) in
             let few = by.awaited n in
-            omega (arith, fact, way, sums, gone, had, few);
+            omega (arith, old.let_go n was.0 box was.1 (ap (slice_get boxes) (sym was.2.worker) ∙ at_box) open_box, way, sum_set weigh hs t it it' by.there, gone, had, few);
         asked_too = λ n x at sent.
             let was = by.naps_back n x at in
             subst (λ u. IsOrdinary u hs') (sym was.2.task) (ordinary_then was.0.task (old.asked_too n was.0 was.1 (ap is_unsent (sym was.2.forwarding) ∙ sent)));
@@ -214,9 +200,7 @@ module _ (h h' : Hands) (workers : ℕ) (hs : List Holder) (ts ts' : List Thing)
         about = λ j box m at_box has. about_then j m (old.about j box m at_box has);
         room = λ j box at_box.
             let place = old.room j box at_box in
-            let a = by.things_of j in
-            let b = by.naps_of j in
-            record { made = omega (arith, place.made, a, b); places = place.places };
+            record { made = omega (arith, place.made, by.things_of j, by.naps_of j); places = place.places };
         sent = λ k x at is. let was = by.things_back k x at in was.2.forwarding ∙ old.sent k was.0 was.1 (sym was.2.sent ∙ is);
         sent_too = λ n x at is.
             let was = by.naps_back n x at in

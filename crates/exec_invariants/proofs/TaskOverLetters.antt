@@ -1,11 +1,5 @@
 -- THE LETTERS OF A TASK THAT IS OVER: about which things they are, and what tasks hold then.
-use Rattle.std.proofs.{Common.{◌≡◌, ◌≢◌, ℕ, zero, suc, ◌+◌, ◌<◌, ◌≤◌, ◌==◌, Bool, true, false, not, cond, Contains, List, [], ◌∷◌, ◌++◌, count_by, map, option_map, option_to_list, Option, Some, None, IsSome, refl, sym, ap, subst, ◌∙◌, arith, slice_get, slice_set, if◌then◌else◌}, lemmas.{Bool.eq-eqb, List.Sums.{sum_by-append, sum_by-cons}}}
-use Rattle.exec_base.specs.declared.task_no.TaskNo.{TaskNo}
-use Rattle.exec_words.specs.declared.inbox.Message.{Message}
-use Rattle.exec_machine.specs.declared.state.Waiting.{Waiting}
-use Rattle.exec_parts.{specs.{declared.parts.{held.Held.Held, letters.Letters.Letters, mail.Subject.Subject, record.Record.Record, shared.Shared.Shared, sleeping.SleeperRecord.SleeperRecord, task_slot.TaskSlot.TaskSlot, worker.Worker.Worker}, Ending.others_of, View.{letter_of_request, letter_of_timer, letters_in}}, proofs.Facts.{by_number, not_same, same_Some}}
-use Rattle.exec_invariants.{specs.{Holding.{Hands, IsAbout, IsHolding, Mail, MayHave, awaited_in, box_of, cancel_held, cancel_sleep, holder_of, is_awaited_by, mail_in, mail_of_letters, nap_of, same_mail, thing_of}, Places.one_if, Sound.IsLetter, Whole.{Profile, hands_of, wakes_with, with_worker}}, proofs.{HoldSteps.held_in, Lined.{mapped, unmapped}, TaskOverFold.{all_held, held_first, own_in}, TaskOverGone.AllGone, TaskOverHolds.{LetsNap, LetsThing, task_over}, TaskOverMay.{HasAll, some_held}, TaskTakes.{holder_there, holders_one}}}
-use Rattle.exec_parts.specs.declared.parts.mail.Subject.TheVariants as subject
+use Rattle.exec_invariants.{specs.{Holding.{Hands, IsAbout, IsHolding, Mail, MayHave, awaited_in, box_of, cancel_held, cancel_sleep, holder_of, is_awaited_by, mail_in, mail_of_letters, nap_of, same_mail, thing_of}, Places.one_if, Sound.IsLetter, Whole.{Profile, hands_of, wakes_with, with_worker}}, proofs.{Words.{◌≡◌, ◌≢◌, ℕ, zero, suc, ◌+◌, ◌<◌, ◌≤◌, ◌==◌, Bool, true, false, not, cond, Contains, List, [], ◌∷◌, ◌++◌, count_by, map, option_map, option_to_list, Option, Some, None, IsSome, refl, sym, ap, subst, ◌∙◌, arith, slice_get, slice_set, if◌then◌else◌, eq-eqb, sum_by-append, sum_by-cons, TaskNo, Message, Waiting, Held, Letters, Subject, Record, Shared, SleeperRecord, TaskSlot, Worker, others_of, letter_of_request, letter_of_timer, letters_in, by_number, not_same, same_Some, subject}, HoldSteps.held_in, Lined.{mapped, unmapped}, TaskOverFold.{all_held, held_first, own_in}, TaskOverGone.AllGone, TaskOverHolds.{LetsNap, LetsThing, task_over}, TaskOverMay.{HasAll, some_held}, TaskTakes.{holder_there, holders_one}}}
 
 -- MESSAGES OF LETTERS
 
@@ -24,11 +18,7 @@ turned a b = by_number a b (λ apart. ap weight (not_same a b apart ∙ sym (not
 cancels_held : (k : ℕ) (hs : List Held) → mail_in (Message.Cancel (subject.Request k)) (map cancel_held hs) ≡ held_in k hs
 cancels_held k [] = refl
 cancels_held k (h ∷ hs) =
-    let a = mail_cons (Message.Cancel (subject.Request k)) (cancel_held h) (map cancel_held hs) in
-    let b = held_first k h hs in
-    let rest = cancels_held k hs in
-    let one = turned k h.number in
-    omega (arith, a, b, rest, one)
+    omega (arith, mail_cons (Message.Cancel (subject.Request k)) (cancel_held h) (map cancel_held hs), held_first k h hs, cancels_held k hs, turned k h.number)
 
 -- no other
 never_held : (m : Mail) → ((h : Held) → same_mail m (cancel_held h) ≡ false) → (hs : List Held) → mail_in m (map cancel_held hs) ≡ 0
@@ -41,23 +31,19 @@ never_sleep m never (Some h) = ap (λ c. 0 + cond c 1 0) (never h)
 
 pub cancels_in : (k : ℕ) (l : Letters) → mail_in (Message.Cancel (subject.Request k)) (mail_of_letters l) ≡ held_in k l.requests.items
 cancels_in k l =
-    let a = mail_both (Message.Cancel (subject.Request k)) (map cancel_held l.requests.items) (map cancel_sleep (option_to_list l.timer)) in
-    let b = cancels_held k l.requests.items in
     let c = never_sleep (Message.Cancel (subject.Request k)) (λ h. refl) l.timer in
-    omega (arith, a, b, c)
+    omega (arith, mail_both (Message.Cancel (subject.Request k)) (map cancel_held l.requests.items) (map cancel_sleep (option_to_list l.timer)), cancels_held k l.requests.items, c)
 
 pub forwards_in : (s : Subject) (l : Letters) → mail_in (Message.Forward s) (mail_of_letters l) ≡ 0
 forwards_in s l =
-    let a = mail_both (Message.Forward s) (map cancel_held l.requests.items) (map cancel_sleep (option_to_list l.timer)) in
     let b = never_held (Message.Forward s) (λ h. refl) l.requests.items in
     let c = never_sleep (Message.Forward s) (λ h. refl) l.timer in
-    omega (arith, a, b, c)
+    omega (arith, mail_both (Message.Forward s) (map cancel_held l.requests.items) (map cancel_sleep (option_to_list l.timer)), b, c)
 
 pub removes_in : (n : ℕ) (l : Letters) → mail_in (Message.Cancel (subject.Timer n)) (mail_of_letters l) ≡ mail_in (Message.Cancel (subject.Timer n)) (map cancel_sleep (option_to_list l.timer))
 removes_in n l =
-    let a = mail_both (Message.Cancel (subject.Timer n)) (map cancel_held l.requests.items) (map cancel_sleep (option_to_list l.timer)) in
     let b = never_held (Message.Cancel (subject.Timer n)) (λ h. refl) l.requests.items in
-    omega (arith, a, b)
+    omega (arith, mail_both (Message.Cancel (subject.Timer n)) (map cancel_held l.requests.items) (map cancel_sleep (option_to_list l.timer)), b)
 
 -- at most one of a sleeper, just of what is slept for
 sleeps_once : (n : ℕ) (u : Waiting) (o : Option Held) → ((h : Held) → o ≡ Some h → u ≡ Waiting.Timer h.number) → mail_in (Message.Cancel (subject.Timer n)) (map cancel_sleep (option_to_list o)) ≤ one_if (is_awaited_by (subject.Timer n) (awaited_in u))
@@ -185,10 +171,8 @@ module _ {B : Type 0} where
     where
       mails : (m : Mail) → (hands_of (with_worker others w')).mail m ≡ (hands_of (with_worker others w)).mail m + mail_in m (mail_of_letters w'.letters)
       mails m =
-          let a = mail_both m (mail_of_letters w'.letters) w'.batch.values in
-          let b : mail_in m w'.batch.values ≡ mail_in m w.batch.values = ap (λ x. mail_in m x.values) batch in
           let c : mail_in m (mail_of_letters w.letters ++ w.batch.values) ≡ mail_in m w.batch.values = ap (λ xs. mail_in m (xs ++ w.batch.values)) (no_mail w.letters none) in
-          omega (arith, a, b, c)
+          omega (arith, mail_both m (mail_of_letters w'.letters) w'.batch.values, ap (λ x. mail_in m x.values) batch, c)
 
       before : (m : Mail) → mail_in m (mail_of_letters w'.letters) ≡ 0 → 0 < (hands_of (with_worker others w')).mail m → (j : ℕ) × IsAbout s.config.workers j m (map thing_of s.requests.items) (map nap_of s.sleepers.items)
       before m is some = old.made m (let a = mails m in omega (arith, a, is, some))

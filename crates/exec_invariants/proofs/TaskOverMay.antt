@@ -1,12 +1,5 @@
 -- A TASK IS ABOUT TO BE OVER: what it holds is there, and may be let go of.
-use Rattle.std.proofs.{Common.{◌≡◌, ℕ, zero, suc, ◌<◌, ◌≤◌, ◌==◌, Bool, true, cond, List, [], ◌∷◌, length, map, Option, Some, None, refl, sym, ap, subst, ◌∙◌, arith, slice_get}, lemmas.{Bool.false≢true, Option.slice_get_within}}
-use Rattle.exec_base.specs.{Slab.value_at, declared.slab.Slot.TheVariants.Live}
-use Rattle.exec_waiters.{specs.{States.{counts_pending, pending_count, waiter_at}, declared.waiter.{Entry.TheVariants.Pending, Waiter.Waiter}}, proofs.Changes.entry_of}
-use Rattle.exec_words.specs.declared.inbox.Message.{Message}
-use Rattle.exec_machine.specs.{declared.state.Waiting.Waiting, Requests.ends_by_drop}
-use Rattle.exec_parts.{specs.{declared.parts.{held.Held.Held, mail.{Reply.Reply, Subject.Subject}, record.Record.Record, shared.Shared.Shared, task_slot.TaskSlot.TaskSlot, worker.Worker.Worker}, Awaits.MayLetGo, Ending.{LetsGoAll, LetsGoOne.{here, elsewhere}, MayLetGoAll, MayLetGoOf, MayLetSleep}, View.driver_of, Polls.OfSlot}, proofs.Facts.{by_number, not_same, same_Some, found_within}}
-use Rattle.exec_invariants.{specs.{Holding.{Box, IsHeldBy, IsHolding, MayHave, Thing, box_of, holder_of, holdings, nap_of, thing_of, under_way}, Gates.AreLinedUp, Sound.served_in, Whole.{IsWhole, Profile, hands_of, with_worker}}, proofs.{HoldMail.sum_least, HoldSteps.{held_in, held_there, hold_once}, Lined.unmapped, ServingHolds.Keeps, TaskOverFold.{HoldsAll, LetsSeen, ends_plain, gates_later, held_first, holds_later, later_once, let_all, queued_unresolved}, TaskTakes.holder_there}}
-use Rattle.exec_invariants.proofs.Slotted.{live_at}
+use Rattle.exec_invariants.{specs.{Holding.{Box, IsHeldBy, IsHolding, MayHave, Thing, box_of, holder_of, holdings, nap_of, thing_of, under_way}, Gates.AreLinedUp, Sound.served_in, Whole.{IsWhole, Profile, hands_of, with_worker}}, proofs.{Words.{◌≡◌, ℕ, zero, suc, ◌<◌, ◌≤◌, ◌==◌, Bool, true, cond, List, [], ◌∷◌, length, map, Option, Some, None, refl, sym, ap, subst, ◌∙◌, arith, slice_get, false≢true, slice_get_within, value_at, Live, counts_pending, pending_count, waiter_at, Pending, Waiter, entry_of, Message, Waiting, ends_by_drop, Held, Reply, Subject, Record, Shared, TaskSlot, Worker, MayLetGo, LetsGoAll, here, elsewhere, MayLetGoAll, MayLetGoOf, MayLetSleep, driver_of, OfSlot, by_number, not_same, same_Some, found_within}, HoldMail.sum_least, HoldSteps.{held_in, held_there, hold_once}, Lined.unmapped, ServingHolds.Keeps, TaskOverFold.{HoldsAll, LetsSeen, ends_plain, gates_later, held_first, holds_later, later_once, let_all, queued_unresolved}, TaskTakes.holder_there, Slotted.live_at}}
 
 -- what counts is there
 pub some_held : (k : ℕ) (hs : List Held) → 0 < held_in k hs → (j : ℕ) × (x : Held) × (slice_get hs j ≡ Some x) × (x.number ≡ k)
@@ -14,10 +7,9 @@ some_held k [] some = absurd (omega (arith, some))
 some_held k (h ∷ hs) some =
     by_number h.number k
     (λ apart.
-    let first = held_first k h hs in
     let nothing : ℕ = 0 in
     let none : cond (h.number == k) 1 0 ≡ nothing = ap (λ b. cond b 1 0) (not_same h.number k apart) in
-    let rest = some_held k hs (omega (arith, some, first, none)) in
+    let rest = some_held k hs (omega (arith, some, held_first k h hs, none)) in
     (suc rest.0, rest.1, rest.2, rest.3))
     (λ same. (0, h, refl, same))
 
@@ -69,9 +61,8 @@ module _ {B : Type 0} where
           let it = old.holds t (holder_of slot) one.0 one.1 at_t one.2 in
           let at : slice_get (map thing_of s.requests.items) k ≡ Some it.0 = ap (slice_get (map thing_of s.requests.items)) (sym one.3) ∙ it.1 in
           let box = box_at it.0 k at in
-          let least = hold_once k (map holder_of s.tasks.items) t (holder_of slot) at_t in
           let most = once_by box.0.shut it.0.observed (holdings k (map holder_of s.tasks.items)) (under_way (hands_of (with_worker others w)) (Message.Cancel (Subject.Request k)) (map box_of s.seats.items)) (old.held k it.0 box.0 at box.1) in
-          omega (arith, least, most)
+          omega (arith, hold_once k (map holder_of s.tasks.items) t (holder_of slot) at_t, most)
 
   -- IT MAY BE LET GO OF
 
@@ -85,8 +76,7 @@ module _ {B : Type 0} where
         known = slice_get_within s.requests.items h.number r there;
         room = grind (arith, room.notes.wakes, room.notes.completions, room.outputs, room.resources, room.results);
         ending = λ x found ends.
-            let is : r ≡ x = same_Some r x (sym there ∙ found) in
-            let some = pending (waiter_at (driver_of w).requests r.id.0) refl (ap (λ (y : Record). ends_by_drop y.shown) is ∙ ends) in
+            let some = pending (waiter_at (driver_of w).requests r.id.0) refl (ap (λ (y : Record). ends_by_drop y.shown) (same_Some r x (sym there ∙ found)) ∙ ends) in
             omega (arith, some, keeps.over.counted, keeps.flown.ending);
       }
     where
@@ -94,8 +84,7 @@ module _ {B : Type 0} where
       pending None at ends = absurd (false≢true (sym (queued_unresolved r.shown.phase (ends_plain r ends).0) ∙ keeps.named.over h.number r there mine at))
       pending (Some it) at ends =
           let slot = live_at (driver_of w).requests r.id.0 (Pending it) (entry_of (value_at (driver_of w).requests r.id.0) it at) in
-          let least = sum_least (λ o. cond (counts_pending o) 1 0) (driver_of w).requests.slots r.id.0.index (Live r.id.0.generation (Pending it)) slot in
-          omega (arith, least)
+          omega (arith, sum_least (λ o. cond (counts_pending o) 1 0) (driver_of w).requests.slots r.id.0.index (Live r.id.0.generation (Pending it)) slot)
 
   may_all : (hs : List Held) (w : Worker) (s : Shared B) → LetsSeen B → served_in w.place ≡ None → AreLinedUp s.opens s.requests.items → Keeps w s → HoldsAll hs s.requests.items → MayLetGoAll hs w s
   may_all [] w s seen idle gates keeps holds = tt

@@ -1,10 +1,6 @@
 -- Where a task may be over by its own act, and where its worker goes on.
-use Rattle.std.proofs.{Common.{◌≡◌, ℕ, zero, suc, ◌<◌, arith, Bool, true, false, not, List, [], ◌∷◌, Option, Some, refl, sym, ap, subst, ◌∙◌, slice_get, if◌then◌else◌}, lemmas.Bool.{false≢true, eq-eqb}}
+use Rattle.exec_invariants.proofs.{Words.{◌≡◌, ℕ, zero, suc, ◌<◌, arith, Bool, true, false, not, List, [], ◌∷◌, Option, Some, refl, sym, ap, subst, ◌∙◌, slice_get, if◌then◌else◌, false≢true, eq-eqb, ScriptWord, Code, Next, asks_await, next_word, Common, Task, AfterCancels, InClosing, InPoll, Place, next_at, serves_at, Held, others_of, IsCodeOf, owed_at}, TaskOverSound.{IsAside, IsOwing}, TaskOverWhole.IsPast}
 pub use Rattle.std.proofs.lemmas.Bool.{ltb-true}
-use Rattle.exec_machine.specs.{declared.{config.ScriptWord.ScriptWord, state.{Code.Code, Next.Next}}, Words.{asks_await, next_word}, World.{Common, Task}}
-use Rattle.exec_moves.specs.{declared.{handing.AfterCancels.AfterCancels, place.{InClosing.InClosing, InPoll.InPoll, Place.Place}}, Seen.{next_at, serves_at}}
-use Rattle.exec_parts.specs.{declared.parts.held.Held.Held, Ending.others_of, Scripts.IsCodeOf, View.owed_at}
-use Rattle.exec_invariants.proofs.{TaskOverSound.{IsAside, IsOwing}, TaskOverWhole.IsPast}
 
 -- PLACES
 

@@ -1,11 +1,5 @@
 -- A POLLED TASK IS OVER: what the whole step is, but for what the machine is asked.
-use Rattle.std.proofs.{Common.{◌≡◌, ◌⊎◌, ⊎_elim, ℕ, true, false, List, [], Some, None, IsSome, refl, sym, ap, subst, ◌∙◌, slice_get, slice_set}, lemmas.Bool.false≢true}
-use Rattle.std.proofs.Common.{arith}
-use Rattle.exec_task.specs.Phases.{is_polled}
-use Rattle.exec_machine.specs.{declared.state.Waiting.Waiting, Tests.is_empty}
-use Rattle.exec_moves.specs.{declared.{handing.AfterCancels.AfterCancels, place.{InPoll.InPoll, Place.Place}}, Seen.polls_in}
-use Rattle.exec_parts.specs.{declared.parts.{held.Held.Held, letters.Letters.Letters, shared.Shared.Shared, task_slot.TaskSlot.TaskSlot, worker.Worker.Worker}, Roles.is_pool, View.letters_in}
-use Rattle.exec_invariants.{specs.{Carried.HasRoom, Holding.{awaited_in, holder_of}, HoldPlaces.{cancels_at, has_wakes_at, is_bare_at, sends_cancel_at, spare_at}, Places.{claims_at, clears_at, has_count_at, is_published_at, removes_at}, Sound.{HasLetters, SoundAt, served_in}, Works.Beside}, proofs.{Here.going_on, Polling.home_mine, ServingHolds.Keeps, Serving.SparesRecords, TaskOverGone.AllGone, TaskOverLetters.{AreLetters, gone_holding}, TaskOverSound.{IsAside, IsOwing, KeepsOwn, keeps_own, sound_let, sound_owing}, TaskOverWhole.{IsDone, IsPast, spares_done, whole_done}}}
+use Rattle.exec_invariants.{specs.{Carried.HasRoom, Holding.{awaited_in, holder_of}, HoldPlaces.{cancels_at, has_wakes_at, is_bare_at, sends_cancel_at, spare_at}, Places.{claims_at, clears_at, has_count_at, is_published_at, removes_at}, Sound.{HasLetters, SoundAt, served_in}, Works.Beside}, proofs.{Words.{◌≡◌, ◌⊎◌, ⊎_elim, ℕ, true, false, List, [], Some, None, IsSome, refl, sym, ap, subst, ◌∙◌, slice_get, slice_set, false≢true, arith, is_polled, Waiting, is_empty, AfterCancels, InPoll, Place, polls_in, Held, Letters, Shared, TaskSlot, Worker, is_pool, letters_in}, Here.going_on, Polling.home_mine, ServingHolds.Keeps, Serving.SparesRecords, TaskOverGone.AllGone, TaskOverLetters.{AreLetters, gone_holding}, TaskOverSound.{IsAside, IsOwing, KeepsOwn, keeps_own, sound_let, sound_owing}, TaskOverWhole.{IsDone, IsPast, spares_done, whole_done}}}
 
 -- a place of a poll that has begun
 pub record InPollAt (x : InPoll) (t : ℕ) : Type 0 where
@@ -55,8 +49,7 @@ module _ {B : Type 0} where
   -- what it let go of, where the slot had changed before
   pub gone_at : (i : ℕ) (hs : List Held) (u : Waiting) (l : Letters) (w v : Worker) (s first now : Shared B) → first ≡ record s { tasks = first.tasks } → AllGone i hs u l w v first now → AllGone i hs u l w v s (record now { tasks = s.tasks })
   gone_at i hs u l w v s first now is gone =
-      let ts = first.tasks in
-      let g : AllGone i hs u l w v (record s { tasks = ts }) now = subst (λ y. AllGone i hs u l w v y now) is gone in
+      let g : AllGone i hs u l w v (record s { tasks = first.tasks }) now = subst (λ y. AllGone i hs u l w v y now) is gone in
       let keeps : Keeps v (record now { tasks = s.tasks }) = assumption g.keeps in
       let spares : SparesRecords i s (record now { tasks = s.tasks }) = assumption g.spares in
       grind arith
@@ -88,12 +81,9 @@ module _ {B : Type 0} where
       let S : Shared B = over_shared s'.tasks.items s' now s in
       let gone = it.gone in
       let spares : SparesRecords w.index s (record s { requests = now.requests; sleepers = now.sleepers }) = subst (SparesRecords w.index s) gone.kept gone.spares in
-      let spares1 : SparesRecords w.index S1 S = assumption spares in
-      let here : v.place ≡ Place.Poll t x = ap (λ (y : Worker). y.place) gone.worker ∙ sound.here in
-      let own : KeepsOwn v now = keeps_own (Place.Poll t x) v now here at.unwoken at.unserved gone.keeps in
+      let own : KeepsOwn v now = keeps_own (Place.Poll t x) v now (ap (λ (y : Worker). y.place) gone.worker ∙ sound.here) at.unwoken at.unserved gone.keeps in
       let own1 : KeepsOwn (record w { names = record w.names { ended = v.names.ended }; home = record w.home { driver = v.home.driver; timers = v.home.timers; deferred = v.home.deferred } }) (record s { requests = now.requests; sleepers = now.sleepers }) =
       subst (λ y. KeepsOwn (record w { names = record w.names { ended = v.names.ended }; home = record w.home { driver = v.home.driver; timers = v.home.timers; deferred = v.home.deferred } }) y) gone.kept (subst (λ y. KeepsOwn y now) gone.worker own) in
-      let own2 : KeepsOwn W S = assumption own1 in
       sound_let q (record w { place = q; letters = l }) W S1 S it.aside
       (⊎_elim
       (λ stays.
@@ -102,4 +92,4 @@ module _ {B : Type 0} where
       subst (λ y. SoundAt y (record w { place = y; letters = l }) S1) (sym stays.1) there)
       (λ tells. subst (λ y. SoundAt y (record w { place = y; letters = l }) S1) (sym tells.1) (sound_owing q0 b (record w { place = q0 }) l S1 (owing tells.0) first sound.searching (pool tells.0) tells.0 letters.requests letters.timer))
       splits)
-      refl refl spares1 own2
+      refl refl (assumption spares) (assumption own1)

@@ -1,11 +1,5 @@
 -- WHAT THE MACHINE HAS, where a task is over and its worker has let go of what it has of that.
-use Rattle.std.proofs.{Common.{◌≡◌, ℕ, List, [], ◌++◌, Option, Some, refl, sym, ap, subst, ◌∙◌, slice_get, slice_set}, lemmas.List.map-set}
-use Rattle.std.proofs.Common.{arith}
-use Rattle.exec_task.specs.declared.body.Said.{Said}
-use Rattle.exec_machine.specs.{declared.state.{Letter.Letter, TaskPhase.TaskPhase}, Progress.Plan, Tasks.{after_over, own_after_drops, own_after_waking_up}, World.{Common, Task, task_of}}
-use Rattle.exec_moves.specs.{declared.place.Place.Place, Told.lets_go_all}
-use Rattle.exec_parts.specs.{declared.parts.{letters.Letters.Letters, shared.Shared.Shared, task_slot.TaskSlot.TaskSlot, worker.Worker.Worker}, Spots.Spot, View.{Views, common_of, desk_of, letters_in, own_of, task_seen, things_with, visible, with_view}}
-use Rattle.exec_invariants.{specs.Works.Suits, proofs.{Keys.same_opens, Seeing.things_kept, Seen.request_at, Serving.SparesRecords, Slots.task_there, TaskOverFold.SeesAll, TaskOverGone.AllGone, TaskOverPolls.{over_shared, over_worker}, Turning.view_found}}
+use Rattle.exec_invariants.{specs.Works.Suits, proofs.{Words.{◌≡◌, ℕ, List, [], ◌++◌, Option, Some, refl, sym, ap, subst, ◌∙◌, slice_get, slice_set, map-set, arith, Said, Letter, TaskPhase, Plan, after_over, own_after_drops, own_after_waking_up, Common, Task, task_of, Place, lets_go_all, Letters, Shared, TaskSlot, Worker, Spot, Views, common_of, desk_of, letters_in, own_of, task_seen, things_with, visible, with_view}, Keys.same_opens, Seeing.things_kept, Seen.request_at, Serving.SparesRecords, Slots.task_there, TaskOverFold.SeesAll, TaskOverGone.AllGone, TaskOverPolls.{over_shared, over_worker}, Turning.view_found}}
 
 module _ {B L : Type 0} (left : B → L) (spot : L → Option Said → Spot) (p : Plan) (vs : Views) (t : ℕ) (q : Place) (l : Letters) (w v : Worker) (s now s' : Shared B) (slot slot' : TaskSlot B)
     (suits : Suits p vs w s) (there : slice_get s.tasks.items t ≡ Some slot) (items : s'.tasks.items ≡ slice_set s.tasks.items t slot') (gone : AllGone w.index slot.held.items slot.waiting l w v s now) where
@@ -21,9 +15,6 @@ module _ {B L : Type 0} (left : B → L) (spot : L → Option Said → Spot) (p 
   pub visible_then : visible (over_worker q l v w) ≡ visible w
   visible_then = sym (ap visible gone.worker) ∙ gone.shows
 
-  again : with_view vs w.index (visible (over_worker q l v w)) ≡ vs
-  again = ap (with_view vs w.index) visible_then ∙ view_found vs w.index (visible w) suits.seen
-
   pub things_then : things_with (with_view vs w.index (visible (over_worker q l v w))) (over_shared s'.tasks.items s' now s) ≡ things_with vs s
   things_then =
       let spares : SparesRecords w.index s (record s { requests = now.requests; sleepers = now.sleepers }) = subst (SparesRecords w.index s) gone.kept gone.spares in
@@ -36,4 +27,4 @@ module _ {B L : Type 0} (left : B → L) (spot : L → Option Said → Spot) (p 
   desk_then none = gone.desk c sees refl (letters_in w.letters) ∙ ap (λ ls. record (desk_of v) { letters = ls ++ letters_in l }) none
 
   pub common_then : task_seen left spot slot' ≡ record (task_seen left spot slot) { phase = TaskPhase.Done; held = [] } → common_of left spot p (with_view vs w.index (visible (over_worker q l v w))) (over_shared s'.tasks.items s' now s) ≡ after_over c w.index t
-  common_then = grind (arith, over_shared, again, map-set, same_opens, its)
+  common_then = grind (arith, over_shared, ap (with_view vs w.index) visible_then ∙ view_found vs w.index (visible w) suits.seen, map-set, same_opens, its)

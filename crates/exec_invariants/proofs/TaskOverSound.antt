@@ -1,16 +1,6 @@
 -- WHAT HOLDS where a worker lets go of what a task held that is over: of its own things, at one place; and where it is told next to
 -- whom others of them are.
-use Rattle.std.proofs.{Common.{◌≡◌, ℕ, ◌+◌, true, false, Contains, [], Option, Some, None, sym, ap, subst, ◌∙◌, slice_get, option_to_list}, lemmas.Bool.false≢true}
-use Rattle.std.proofs.Common.{arith}
-use Rattle.exec_words.specs.Queue.{Queue}
-use Rattle.exec_task.specs.declared.runnable.Runnable.{Runnable}
-use Rattle.exec_base.specs.Slab.{Slab}
-use Rattle.exec_time.specs.declared.timers.Sleeper.{Sleeper as Sleeping}
-use Rattle.exec_waiters.specs.{States.pending_count, declared.waiter.Entry.Entry}
-use Rattle.exec_machine.specs.{Ranges.ring_size, Tests.is_empty}
-use Rattle.exec_moves.specs.{declared.{handing.AfterCancels.AfterCancels, place.Place.Place}, Seen.polls_at}
-use Rattle.exec_parts.specs.{declared.parts.{held.Held.Held, letters.Letters.Letters, mail.{Reply.Reply, Subject.Subject}, seat.Seat.Seat as Chair, shared.Shared.Shared, task_slot.TaskSlot.TaskSlot, worker.Worker.Worker}, Phased.{IsPhased, closes_at, closing_in, stage_of}, Roles.is_pool, Calls.IsTold, View.{driver_of, letters_in}}
-use Rattle.exec_invariants.{specs.{Carried.Carried, Due.IsDue, Flown.HasFlown, Gates.{AreLinedUp, IsKnown}, Holding.Mail, HoldPlaces.{cancels_at, has_wakes_at, heard_at, is_bare_at, sends_cancel_at, spare_at}, Places.{begins_at, calls_back_at, hands_on_at, has_loot_at, in_poll_of, is_armed_at, is_pooled_at, step_of_poll}, Rooted.{HearsNext, IsRooted}, Sound.{AreOver, HasLetters, HasQueue, HasRunnable, IsHeld, IsInHand, IsLeft, IsLetter, IsLoot, IsMyMail, IsSeated, IsTied, LetsGoAt, SoundAt, Stands, Stops, root_in_hand, served_in}, Names.{HasWidth, IsNamed, tellers}}, proofs.{Lined.lined_kept, ServingHolds.Keeps, Serving.{SparesRecords, letter_kept, mail_kept}}}
+use Rattle.exec_invariants.{specs.{Carried.Carried, Due.IsDue, Flown.HasFlown, Gates.{AreLinedUp, IsKnown}, Holding.Mail, HoldPlaces.{cancels_at, has_wakes_at, heard_at, is_bare_at, sends_cancel_at, spare_at}, Places.{begins_at, calls_back_at, hands_on_at, has_loot_at, in_poll_of, is_armed_at, is_pooled_at, step_of_poll}, Rooted.{HearsNext, IsRooted}, Sound.{AreOver, HasLetters, HasQueue, HasRunnable, IsHeld, IsInHand, IsLeft, IsLetter, IsLoot, IsMyMail, IsSeated, IsTied, LetsGoAt, SoundAt, Stands, Stops, root_in_hand, served_in}, Names.{HasWidth, IsNamed, tellers}}, proofs.{Words.{◌≡◌, ℕ, ◌+◌, true, false, Contains, [], Option, Some, None, sym, ap, subst, ◌∙◌, slice_get, option_to_list, false≢true, arith, Queue, Runnable, Slab, Sleeping, pending_count, Entry, ring_size, is_empty, AfterCancels, Place, polls_at, Held, Letters, Reply, Subject, Chair, Shared, TaskSlot, Worker, IsPhased, closes_at, closing_in, stage_of, is_pool, IsTold, driver_of, letters_in}, Lined.lined_kept, ServingHolds.Keeps, Serving.{SparesRecords, letter_kept, mail_kept}}}
 
 -- such a place
 pub record IsAside (q : Place) : Type 0 where
@@ -79,8 +69,7 @@ module _ {B : Type 0} where
       } in
       let stops : Stops (polls_at q) (step_of_poll q) w.index s.tasks.items s1.requests.items s1.sleepers.items = subst (λ o. Stops o (step_of_poll q) w.index s.tasks.items s1.requests.items s1.sleepers.items) (sym aside.polls) tt in
       let hears : HearsNext (heard_at q) w.index s1.requests.items s1.sleepers.items = subst (λ o. HearsNext o w.index s1.requests.items s1.sleepers.items) (sym aside.heard) tt in
-      let lets : LetsGoAt q (driver_of w1).requests w1.home.timers = aside.lets (driver_of w1).requests w1.home.timers in
-      let done : SoundAt q w1 s1 = assumption (gates, told, quiet, due, flown, left, mine, letters, stops, hears, lets, own, sound) in
+      let done : SoundAt q w1 s1 = assumption (gates, told, quiet, due, flown, left, mine, letters, stops, hears, aside.lets (driver_of w1).requests w1.home.timers, own, sound) in
       subst (SoundAt q v) (sym shared) (subst (λ x. SoundAt q x s1) (sym worker) done)
 
   pub sound_owing : (q0 : Place) (b : AfterCancels) (w : Worker) (l : Letters) (s : Shared B) → IsOwing q0 b → SoundAt q0 w s → w.searching ≡ false → is_pool w.role ≡ true → is_empty (letters_in l) ≡ false

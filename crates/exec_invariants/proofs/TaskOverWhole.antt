@@ -1,11 +1,5 @@
 -- A POLLED TASK IS OVER: what that leaves of all parties' balances, and of what others rely on.
-use Rattle.std.proofs.{Common.{◌≡◌, ◌≢◌, ℕ, ◌+◌, ◌<◌, ◌≤◌, ◌==◌, ◌&&◌, not, sum_by, Bool, true, false, ◌++◌, length, map, Some, None, refl, sym, ap, subst, ◌∙◌, arith, slice_get, slice_set, option_to_list, if◌then◌else◌}, lemmas.{Bool.false≢true, List.length-set, Option.slice_get_within}}
-use Rattle.std.specs.{List.range_with_len, Prelude.Contains}
-use Rattle.exec_words.specs.Idle.{is_in}
-use Rattle.exec_task.specs.{Phases.is_polled, declared.runnable.Runnable.Runnable}
-use Rattle.exec_moves.specs.{declared.place.{InPoll.InPoll, Place.Place}, Seen.{polls_at, polls_in}}
-use Rattle.exec_parts.{specs.{declared.parts.{shared.Shared.Shared, task_slot.TaskSlot.TaskSlot, worker.Worker.Worker, seat.Seat.Seat as Chair}, Phased.is_complete}, proofs.Facts.{by_number, same_Some, set_elsewhere, set_there}}
-use Rattle.exec_invariants.{specs.{Carried.HasRoom, Holding.{IsHolding, box_of, holder_of, nap_of, thing_of}, Places.{claims_at, clears_at, drops_at, has_count_at, is_published_at, one_if, removes_at}, Sound.AreHome, Spares.Spares, Whole.{HasOne, IsGenuine, IsWhole, Profile, duties_of, hands_of, is_number, may_let_go, runnables_in, stock, with_worker, queued}, Drained.IsPool, Gates.HaveGates}, proofs.{Lined.{KeepsLines, gates_kept}, Polling.{number_apart, number_there}, PoolKept.{Redoes, chosen_other, chosen_own, pool_slot}, Serving.{SparesRecords, spares_service}, Slots.{gates_free, spares_slot}, SlotTasks.{Keeps, genuine_set}}}
+use Rattle.exec_invariants.{specs.{Carried.HasRoom, Holding.{IsHolding, box_of, holder_of, nap_of, thing_of}, Places.{claims_at, clears_at, drops_at, has_count_at, is_published_at, one_if, removes_at}, Sound.AreHome, Spares.Spares, Whole.{HasOne, IsGenuine, IsWhole, Profile, duties_of, hands_of, is_number, may_let_go, runnables_in, stock, with_worker, queued}, Drained.IsPool, Gates.HaveGates}, proofs.{Words.{◌≡◌, ◌≢◌, ℕ, ◌+◌, ◌<◌, ◌≤◌, ◌==◌, ◌&&◌, not, sum_by, Bool, true, false, ◌++◌, length, map, Some, None, refl, sym, ap, subst, ◌∙◌, arith, slice_get, slice_set, option_to_list, if◌then◌else◌, false≢true, length-set, slice_get_within, range_with_len, Contains, is_in, is_polled, Runnable, InPoll, Place, polls_at, polls_in, Shared, TaskSlot, Worker, Chair, is_complete, by_number, same_Some, set_elsewhere, set_there}, Lined.{KeepsLines, gates_kept}, Polling.{number_apart, number_there}, PoolKept.{Redoes, chosen_other, chosen_own, pool_slot}, Serving.{SparesRecords, spares_service}, Slots.{gates_free, spares_slot}, SlotTasks.{Keeps, genuine_set}}}
 
 -- where it goes on: nothing is polled there, claimed, counted, published, cleared, passed on or joined
 pub record IsPast (q : Place) : Type 0 where
@@ -71,13 +65,9 @@ module _ {B : Type 0} where
       omega (arith, old, none))
       (λ same.
       let e = is u o found same in
-      let old_home : slot.home ≡ None = sym over.keeps.home ∙ ap (λ (y : TaskSlot B). y.home) e ∙ home in
-      let old = whole.polls t slot there old_home in
-      let one : one_if (is_number (polls_at w.place) t) ≡ 1 = ap one_if (ap (λ p. is_number (polls_at p) t) here ∙ number_there t (polls_in t x) polls) in
-      let on : one_if (is_polled slot.cell.phase) ≡ 1 = ap one_if polled in
+      let old = whole.polls t slot there (sym over.keeps.home ∙ ap (λ (y : TaskSlot B). y.home) e ∙ home) in
       let off : one_if (is_polled o.cell.phase) ≡ 0 = ap (λ (y : TaskSlot B). one_if (is_polled y.cell.phase)) (sym e) ∙ ap one_if over.unpolled in
-      let at_u : others.polls u ≡ others.polls t = ap others.polls same in
-      omega (arith, old, one, on, off, at_u)) in
+      omega (arith, old, ap one_if (ap (λ p. is_number (polls_at p) t) here ∙ number_there t (polls_in t x) polls), ap one_if polled, off, ap others.polls same)) in
       let claims : (j : ℕ) (chair : Chair) → slice_get s1.seats.items j ≡ Some chair → (with_worker others w').claims j ≡ one_if (not (chair.queue.gap == 0)) = λ j chair found. same_claims j ∙ whole.claims j chair found in
       let counts = subst (λ (f : ℕ → Bool). (with_worker others w').counts + claimed_by f ≡ s.idle.count) (sym posted) (ap (λ n. n + claimed_by (with_worker others w).published) counted ∙ whole.counts) in
       let queued_here : (j : ℕ) (chair : Chair) (r : Runnable) → slice_get s1.seats.items j ≡ Some chair → Contains (queued chair) r → IsGenuine s1.tasks.items r =
@@ -86,14 +76,11 @@ module _ {B : Type 0} where
       let places : s1.global.closed ≡ false → length s1.tasks.items ≤ s1.global.places = λ open_still. rw (items, length-set) (whole.places open_still) in
       let made : (t : ℕ) → length s1.tasks.items ≤ t → ((with_worker others w').runnables t + stock t s1 ≡ 0) × ((with_worker others w').polls t ≡ 0) = λ u more.
       let beyond : length s.tasks.items ≤ u = subst (λ n. n ≤ u) (ap length items ∙ length-set s.tasks.items t slot') more in
-      let inside : t < length s.tasks.items = slice_get_within s.tasks.items t slot there in
-      let apart : u ≢ t = λ same. omega (arith, beyond, inside, same) in
+      let apart : u ≢ t = λ same. omega (arith, beyond, slice_get_within s.tasks.items t slot there, same) in
       let old = whole.made u beyond in
-      let none : one_if (is_number (polls_at w.place) u) ≡ 0 = ap one_if (ap (λ p. is_number (polls_at p) u) here ∙ number_apart t u (polls_in t x) polls apart) in
-      let same = same_runnables u in
       let now = unpolled_now u in (
-        omega (arith, old.0, same),
-        omega (arith, old.1, none, now),
+        omega (arith, old.0, same_runnables u),
+        omega (arith, old.1, ap one_if (ap (λ p. is_number (polls_at p) u) here ∙ number_apart t u (polls_in t x) polls apart), now),
       ) in
       let unclaimed : (j : ℕ) → length s1.seats.items ≤ j → (with_worker others w').claims j ≡ 0 = λ j more. same_claims j ∙ whole.unclaimed j more in
       let gates : HaveGates (with_worker others w').drops_by s1.opens s1.requests.items =

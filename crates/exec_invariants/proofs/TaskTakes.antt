@@ -1,11 +1,5 @@
 -- A POLLED TASK TAKES what it waited for: a wake, the end of its sleep, or an output that was sent to it; or it looks in vain.
-use Rattle.std.proofs.{lemmas.{List.map-set, Option.slice_get-map, Bool.{false≢true, eq-eqb}}, Common.{◌⊎◌, ⊎_elim, ◌≡◌, ℕ, zero, suc, ◌+◌, ◌||◌, Bool, true, false, List, [], ◌∷◌, count_by, Option, Some, None, refl, sym, ap, subst, ◌∙◌, ◌<◌, ◌==◌, arith, map, option_map, slice_get, slice_set, if◌then◌else◌}}
-use Rattle.exec_base.specs.declared.error.Error.TheVariants.{NoMemory}
-use Rattle.exec_task.specs.declared.body.Said.{Said}
-use Rattle.exec_machine.specs.{declared.{state.{Forwarding.TheVariants.{Applied, Unsent}, MailMessage.TheVariants.ForwardTimer, Waiting.Waiting}, event.Event.{Event, TheVariants.{Pass, GotTimer, Turn}}}, Choice.Choice.Plain, Progress.Plan, Tasks.{is_here}, Tests.{is_unsent}, World.{Task, task_of}}
-use Rattle.exec_moves.specs.{declared.{handing.AfterSend.AfterSend, place.{InPoll.InPoll, Place.Place}}, Move.move_look_at, Poll.{Sight.{Asks, HearsTimer}, acts_on, pend, resume, sight_by, sight_of, stops}, State.{Moved, Things, does}, Thing.{aside, with_alarms}, Told.has_number}
-use Rattle.exec_parts.{specs.{declared.parts.{shared.Shared.Shared, sleeping.SleeperRecord.SleeperRecord, task_slot.TaskSlot.TaskSlot, worker.Worker.Worker}, Polls.{passed_slot, slept_slot}, Records.numbers_held, Scripts.IsAnswered, Spots.Spot, View.{Views, common_of, desk_of, numbers_of_passing, own_of, spot_by, task_seen, things_with}, Things.TurnsSlot}, proofs.Facts.{not_same, same_Some}}
-use Rattle.exec_invariants.{specs.{Hearing.{CanHear, held_once_come}, Holding.{Holder, IsHolding, awaited_in, box_of, holder_of, nap_of, thing_of}, Sound.{SoundAt, acts_next, has_wakes_at, may_resume}, Whole.{Profile, hands_of, wakes_with, with_worker}, Works.Steps}, proofs.{Hearing.hears_come, Here.{IsHere, going_on}, HoldBeside.Holds, HoldNaps.nap_taken, HoldThings.touches_none, PoolKept.chosen_own, Seen.sleeper_at, Slots.{IsEvent, holders_set, task_there, works_slot}, TaskDeals.{Dealt, acts as to_act, dealt, from_look}}}
+use Rattle.exec_invariants.{specs.{Hearing.{CanHear, held_once_come}, Holding.{Holder, IsHolding, awaited_in, box_of, holder_of, nap_of, thing_of}, Sound.{SoundAt, acts_next, has_wakes_at, may_resume}, Whole.{Profile, hands_of, wakes_with, with_worker}, Works.Steps}, proofs.{Words.{map-set, slice_get-map, false≢true, eq-eqb, ◌⊎◌, ⊎_elim, ◌≡◌, ℕ, zero, suc, ◌+◌, ◌||◌, Bool, true, false, List, [], ◌∷◌, count_by, Option, Some, None, refl, sym, ap, subst, ◌∙◌, ◌<◌, ◌==◌, arith, map, option_map, slice_get, slice_set, if◌then◌else◌, NoMemory, Said, Applied, Unsent, ForwardTimer, Waiting, Event, Pass, GotTimer, Turn, Plain, Plan, is_here, is_unsent, Task, task_of, AfterSend, InPoll, Place, move_look_at, Asks, HearsTimer, acts_on, pend, resume, sight_by, sight_of, stops, Moved, Things, does, aside, with_alarms, has_number, Shared, SleeperRecord, TaskSlot, Worker, passed_slot, slept_slot, numbers_held, IsAnswered, Spot, Views, common_of, desk_of, numbers_of_passing, own_of, spot_by, task_seen, things_with, TurnsSlot, not_same, same_Some}, Hearing.hears_come, Here.{IsHere, going_on}, HoldBeside.Holds, HoldNaps.nap_taken, HoldThings.touches_none, PoolKept.chosen_own, Seen.sleeper_at, Slots.{IsEvent, holders_set, task_there, works_slot}, TaskDeals.{Dealt, acts as to_act, dealt, from_look}}}
 
 -- A number is among those that pass just where what stands there passes.
 past_none : {A : Type 0} (test : A → Bool) (n a : ℕ) (xs : List A) → n < a → has_number n (numbers_of_passing test a xs) ≡ false

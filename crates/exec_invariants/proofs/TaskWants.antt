@@ -1,11 +1,6 @@
 -- A POLLED TASK, ANOTHER WORKER'S REQUEST: the newest that it holds is another worker's. That may be told that the task waits for it
 -- elsewhere, or holds it no more: its mailbox is open, and has a place for that.
-use Rattle.std.proofs.{Common.{◌≡◌, ◌≢◌, ◌⊎◌, inl, inr, ℕ, ◌+◌, ◌-◌, ◌<◌, ◌≤◌, Bool, true, false, List, count_by, length, map, Option, Some, None, refl, sym, ap, subst, ◌∙◌, arith, slice_get}, lemmas.{Bool.false≢true, Option.slice_get_within}}
-use Rattle.exec_words.specs.{Inbox.{is_wake_root}, declared.inbox.Message.{Message}}
-use Rattle.exec_machine.specs.{declared.state.{Forwarding.TheVariants.Unsent, MailMessage.TheVariants.{CancelRequest, ForwardRequest}}, Tests.is_unsent}
-use Rattle.exec_moves.specs.declared.place.{InPoll.InPoll, Place.Place}
-use Rattle.exec_parts.{specs.{declared.parts.{mail.Subject.Subject, record.Record.Record, seat.Seat.Seat as Chair, shared.Shared.Shared, task_slot.TaskSlot.TaskSlot, worker.Worker.Worker}, Awaits.newest_of, Pooled.MaySend, Records.numbers_held}, proofs.Facts.{by_number, false_from_ne_true, same_Some}}
-use Rattle.exec_invariants.{specs.{Holding.{Box, Hands, Holder, IsAbout, IsHeldBy, IsHolding, Mail, MayHave, Nap, Thing, awaited_in, box_of, holder_of, holdings, mail_in, nap_of, thing_of, under_way}, Sound.SoundAt, Whole.{HasWhole, hands_of, with_worker}}, proofs.{AskBoxes.{box_there, none_sent, pool_open}, Here.IsHere, HoldMail.{sum_least}, HoldPosts.{has_place, with_mail}, HoldSteps.{held_there, hold_once}, HoldWaits.{held_number, holds_alone}, Polling.home_mine, SparedRecord.there_within, TaskHears.thing_there, TaskTakes.holder_there}}
+use Rattle.exec_invariants.{specs.{Holding.{Box, Hands, Holder, IsAbout, IsHeldBy, IsHolding, Mail, MayHave, Nap, Thing, awaited_in, box_of, holder_of, holdings, mail_in, nap_of, thing_of, under_way}, Sound.SoundAt, Whole.{HasWhole, hands_of, with_worker}}, proofs.{Words.{◌≡◌, ◌≢◌, ℕ, ◌+◌, ◌-◌, ◌<◌, ◌≤◌, Bool, true, false, List, count_by, length, map, Option, Some, None, refl, sym, ap, subst, ◌∙◌, arith, slice_get, false≢true, slice_get_within, is_wake_root, Message, Unsent, CancelRequest, ForwardRequest, is_unsent, InPoll, Place, Subject, Record, Chair, Shared, TaskSlot, Worker, newest_of, MaySend, numbers_held, false_from_ne_true, same_Some}, AskBoxes.{box_there, none_sent, pool_open}, Here.IsHere, HoldMail.sum_least, HoldPosts.{has_place, with_mail}, HoldSteps.{held_there, hold_once}, HoldWaits.{held_number, holds_alone}, Polling.home_mine, SparedRecord.there_within, TaskHears.thing_there, TaskTakes.holder_there, TaskDeals.here_or_none}}
 
 none_told : (shut observed : Bool) (held told : ℕ) → shut ≡ false → 0 < held → IsHeldBy shut observed held told → told ≡ 0
 none_told = grind arith
@@ -35,6 +30,39 @@ pub made_with : (h : Hands) (workers : ℕ) (ts : List Thing) (naps : List Nap) 
 made_with = grind arith
 
 module _ {B : Type 0} where
+  -- the newest that a task holds is held, by that task alone
+  pub record HoldsNewest (t k : ℕ) (s : Shared B) (slot : TaskSlot B) (r : Record) : Type 0 where
+    pub observed : r.shown.observed ≡ true
+    pub waiter : (u : ℕ) → r.shown.waiter ≡ Some u → u ≡ t
+    pub awaited : is_unsent r.shown.forwarding ≡ false → awaited_in slot.waiting ≡ Some (Subject.Request k)
+    pub within : length (numbers_held slot.held.items) - 1 < length slot.held.items
+    pub near : MayHave s.config.workers slot.home r.shown.worker
+    pub held : 0 < holdings k (map holder_of s.tasks.items)
+    pub there : slice_get slot.held.items (length (numbers_held slot.held.items) - 1) ≡ Some (record { number = k; worker = r.shown.worker })
+
+  pub newest_is : (x : InPoll) (t k : ℕ) (w : Worker) (s : Shared B) (r : Record) → HasWhole w s → (at : IsHere x t w s) → newest_of at.slot ≡ Some k → slice_get s.requests.items k ≡ Some r → HoldsNewest t k s at.slot r
+  newest_is x t k w s r has at newest at_k =
+      let slot = at.slot in
+      let h = hands_of (with_worker has.others w) in
+      let workers = s.config.workers in
+      let hs = map holder_of s.tasks.items in
+      let ts = map thing_of s.requests.items in
+      let boxes = map box_of s.seats.items in
+      let at_t = holder_there s.tasks.items t slot at.there in
+      let at_r = thing_there s.requests.items k r at_k in
+      let box = there_within boxes r.shown.worker (has.whole.holding.of_worker k (thing_of r) at_r) in
+      let place = length (numbers_held slot.held.items) - 1 in
+      let mine = holds_alone h h workers hs ts (map nap_of s.sleepers.items) boxes t k (holder_of slot) (holder_of slot) (thing_of r) Unsent at_t at_r place newest box.0 box.1 has.whole.holding in
+      let one = held_number slot.held.items place k newest in
+      let some = held_there k slot.held.items place one.0 one.1 one.2 in
+      let held : 0 < holdings k hs = omega (arith, some, hold_once k hs t (holder_of slot) at_t) in
+      let kept = has.whole.holding.holds t (holder_of slot) place one.0 at_t one.1 in
+      let is : kept.0 ≡ thing_of r = same_Some kept.0 (thing_of r) (sym kept.1 ∙ ap (slice_get ts) one.2 ∙ at_r) in
+      let observed = held_so box.0.shut r.shown.observed (holdings k hs) (under_way h (Message.Cancel (Subject.Request k)) boxes) held (has.whole.holding.held k (thing_of r) box.0 at_r box.1) in
+      let awaited : is_unsent r.shown.forwarding ≡ false → awaited_in at.slot.waiting ≡ Some (Subject.Request k) = λ sent. mine.holds.awaited sent ∙ ap (λ n. Some (Subject.Request n)) mine.number in
+      let there = one.1 ∙ ap (λ n. Some (record { number = n; worker = one.0.worker })) one.2 ∙ ap (λ n. Some (record { number = k; worker = n })) (sym kept.2.worker ∙ ap (λ (x : Thing). x.worker) is) in
+      assumption (observed, awaited, slice_get_within slot.held.items place one.0 one.1, held, there, mine.holds)
+
   pub record WantsFrom (t k : ℕ) (w : Worker) (s : Shared B) (slot : TaskSlot B) (r : Record) : Type 0 where
     pub ordinary : slot.home ≡ None
     pub few : r.shown.worker < s.config.workers
@@ -49,74 +77,25 @@ module _ {B : Type 0} where
   pub wants_from : (x : InPoll) (t k : ℕ) (w : Worker) (s : Shared B) (r : Record) → (sound : SoundAt (Place.Poll t x) w s) → HasWhole w s → (at : IsHere x t w s) → newest_of at.slot ≡ Some k → slice_get s.requests.items k ≡ Some r → r.shown.worker ≢ w.index
       → WantsFrom t k w s at.slot r
   wants_from x t k w s r sound has at newest at_k other =
-      let here_or_none : IsHere x t w s → (at.slot.home ≡ Some w.index) ⊎ (at.slot.home ≡ None) = λ h. by_number t w.root (λ apart. inr (at.ordinary apart).1) (λ own. inl (at.root own).1) in
-      let slot = at.slot in
-      let h = hands_of (with_worker has.others w) in
-      let workers = s.config.workers in
-      let hs = map holder_of s.tasks.items in
-      let ts = map thing_of s.requests.items in
-      let boxes = map box_of s.seats.items in
-      let holding = has.whole.holding in
-      let at_t = holder_there s.tasks.items t slot at.there in
-      let at_r = thing_there s.requests.items k r at_k in
-      let box = there_within boxes r.shown.worker (holding.of_worker k (thing_of r) at_r) in
-      let place = length (numbers_held slot.held.items) - 1 in
-      let mine = holds_alone h h workers hs ts (map nap_of s.sleepers.items) boxes t k (holder_of slot) (holder_of slot) (thing_of r) Unsent at_t at_r place newest box.0 box.1 holding in
-      let near : MayHave workers slot.home r.shown.worker = mine.holds.near in
-      let ordinary : slot.home ≡ None = none_of slot.home near (λ j home. home_mine w.index slot.home (here_or_none at) j home) in
-      let few : r.shown.worker < workers = subst (λ o. MayHave workers o r.shown.worker) ordinary near in
+      let mine = newest_is x t k w s r has at newest at_k in
+      let ordinary : at.slot.home ≡ None = none_of at.slot.home mine.near (λ j home. home_mine w.index at.slot.home (here_or_none x t w s at) j home) in
+      let few : r.shown.worker < s.config.workers = subst (λ o. MayHave s.config.workers o r.shown.worker) ordinary mine.near in
       let chair = there_within s.seats.items r.shown.worker (omega (arith, few, sound.seated.many)) in
-      let one = held_number slot.held.items place k newest in
-      let some = held_there k slot.held.items place one.0 one.1 one.2 in
-      let least = hold_once k hs t (holder_of slot) at_t in
       record {
         ordinary = ordinary;
         few = few;
-        waiter = mine.holds.waiter;
-        awaited = λ sent. mine.holds.awaited sent ∙ ap (λ n. Some (Subject.Request n)) mine.number;
-        silent = λ unsent. false_from_ne_true r.sent (λ sent. false≢true (sym (ap is_unsent (holding.sent k (thing_of r) at_r sent)) ∙ unsent));
-        held = omega (arith, some, least);
+        waiter = mine.waiter;
+        awaited = mine.awaited;
+        silent = λ unsent. false_from_ne_true r.sent (λ sent. false≢true (sym (ap is_unsent (has.whole.holding.sent k (thing_of r) (thing_there s.requests.items k r at_k) sent)) ∙ unsent));
+        held = mine.held;
         chair = chair.0;
         there = chair.1;
-        open_box = pool_open t x w s slot sound has at.there ordinary r.shown.worker chair.0 chair.1 few;
+        open_box = pool_open t x w s at.slot sound has at.there ordinary r.shown.worker chair.0 chair.1 few;
       }
     where
       none_of : (home : Option ℕ) → MayHave s.config.workers home r.shown.worker → ((k : ℕ) → home ≡ Some k → k ≡ w.index) → home ≡ None
       none_of None near mine = refl
       none_of (Some k) near mine = absurd (other (near ∙ mine k refl))
-
-  -- the newest that a task holds is held, by that task alone
-  pub record HoldsNewest (t k : ℕ) (s : Shared B) (slot : TaskSlot B) (r : Record) : Type 0 where
-    pub observed : r.shown.observed ≡ true
-    pub waiter : (u : ℕ) → r.shown.waiter ≡ Some u → u ≡ t
-    pub awaited : is_unsent r.shown.forwarding ≡ false → awaited_in slot.waiting ≡ Some (Subject.Request k)
-    pub within : length (numbers_held slot.held.items) - 1 < length slot.held.items
-    pub there : slice_get slot.held.items (length (numbers_held slot.held.items) - 1) ≡ Some (record { number = k; worker = r.shown.worker })
-
-  pub newest_is : (x : InPoll) (t k : ℕ) (w : Worker) (s : Shared B) (r : Record) → HasWhole w s → (at : IsHere x t w s) → newest_of at.slot ≡ Some k → slice_get s.requests.items k ≡ Some r → HoldsNewest t k s at.slot r
-  newest_is x t k w s r has at newest at_k =
-      let slot = at.slot in
-      let h = hands_of (with_worker has.others w) in
-      let workers = s.config.workers in
-      let hs = map holder_of s.tasks.items in
-      let ts = map thing_of s.requests.items in
-      let boxes = map box_of s.seats.items in
-      let holding = has.whole.holding in
-      let at_t = holder_there s.tasks.items t slot at.there in
-      let at_r = thing_there s.requests.items k r at_k in
-      let box = there_within boxes r.shown.worker (holding.of_worker k (thing_of r) at_r) in
-      let place = length (numbers_held slot.held.items) - 1 in
-      let mine = holds_alone h h workers hs ts (map nap_of s.sleepers.items) boxes t k (holder_of slot) (holder_of slot) (thing_of r) Unsent at_t at_r place newest box.0 box.1 holding in
-      let one = held_number slot.held.items place k newest in
-      let some = held_there k slot.held.items place one.0 one.1 one.2 in
-      let least = hold_once k hs t (holder_of slot) at_t in
-      let held : 0 < holdings k hs = omega (arith, some, least) in
-      let kept = holding.holds t (holder_of slot) place one.0 at_t one.1 in
-      let is : kept.0 ≡ thing_of r = same_Some kept.0 (thing_of r) (sym kept.1 ∙ ap (slice_get ts) one.2 ∙ at_r) in
-      let observed = held_so box.0.shut r.shown.observed (holdings k hs) (under_way h (Message.Cancel (Subject.Request k)) boxes) held (holding.held k (thing_of r) box.0 at_r box.1) in
-      let awaited : is_unsent r.shown.forwarding ≡ false → awaited_in at.slot.waiting ≡ Some (Subject.Request k) = λ sent. mine.holds.awaited sent ∙ ap (λ n. Some (Subject.Request n)) mine.number in
-      let there = one.1 ∙ ap (λ n. Some (record { number = n; worker = one.0.worker })) one.2 ∙ ap (λ n. Some (record { number = k; worker = n })) (sym kept.2.worker ∙ ap (λ (x : Thing). x.worker) is) in
-      assumption (observed, awaited, slice_get_within slot.held.items place one.0 one.1, there, mine.holds)
 
   -- and so it can be sent that
   pub may_forward : (x : InPoll) (t k : ℕ) (w : Worker) (s : Shared B) (slot : TaskSlot B) (r : Record) → (has : HasWhole w s) → WantsFrom t k w s slot r → slice_get s.requests.items k ≡ Some r → is_unsent r.shown.forwarding ≡ true → MaySend r.shown.worker (ForwardRequest k) s

@@ -1,10 +1,5 @@
 -- What a thief finds of another run queue and its seat, and leaves of them.
-use Rattle.std.proofs.{Common.{◌≡◌, ◌≢◌, ℕ, ◌+◌, ◌/◌, ◌<◌, ◌≤◌, ◌==◌, Bool, not, Contains, List, ◌++◌, length, take, drop, Some, refl, sym, ap, subst, ◌∙◌, arith, cond, slice_get, slice_set, take-append-drop}, lemmas.{List.{length-set, map-append, Elements.{Contains-append_left, Contains-append_right}, Sums.sum_by-append}, Option.slice_get-get_or}}
-use Rattle.exec_words.specs.Queue.{Queue, published}
-use Rattle.exec_task.specs.declared.runnable.Runnable.{Runnable}
-use Rattle.exec_moves.specs.{declared.place.Place.Place, Seen.polls_at}
-use Rattle.exec_parts.{specs.{declared.parts.{seat.Seat.Seat as Chair, shared.Shared.Shared, worker.Worker.Worker}, Phased.stage_of, View.{queue_seen, tasks_of}}, proofs.Facts.set_elsewhere}
-use Rattle.exec_invariants.{specs.{Places.{claims_at, drops_at, has_count_at, is_published_at, one_if}, Sound.{IsSeated, SoundAt}, Whole.{HasWhole, runnables_in, with_worker}}, proofs.{Aside.SameTold, Dedicated.as_long, Queued.Hands}}
+use Rattle.exec_invariants.{specs.{Places.{claims_at, drops_at, has_count_at, is_published_at, one_if}, Sound.{IsSeated, SoundAt}, Whole.{HasWhole, runnables_in, with_worker}}, proofs.{Words.{◌≡◌, ◌≢◌, ℕ, ◌+◌, ◌/◌, ◌<◌, ◌≤◌, ◌==◌, Bool, not, Contains, List, ◌++◌, length, take, drop, Some, refl, sym, ap, subst, ◌∙◌, arith, cond, slice_get, slice_set, take-append-drop, length-set, map-append, Contains-append_left, Contains-append_right, sum_by-append, slice_get-get_or, Queue, published, Runnable, Place, polls_at, Chair, Shared, Worker, stage_of, queue_seen, tasks_of, set_elsewhere}, Aside.SameTold, Dedicated.as_long, Queued.Hands}}
 
 -- HEADS AND HALVES
 

@@ -1,15 +1,5 @@
 -- What holds again once a deadline is on the wheel.
-use Rattle.std.{proofs.{Common.{◌≡◌, ◌≢◌, ℕ, ◌+◌, ◌^◌, ◌<◌, ◌≤◌, ◌==◌, Bool, true, false, List, [], Some, None, IfSome, refl, sym, ap, subst, ◌∙◌, arith, inl, slice_get, Ok}, lemmas.Bool.false≢true}, specs.Prelude.{unwrap_or, is_some}}
-use Rattle.exec_base.specs.{Slab.written, declared.slab.Id.Id}
-use Rattle.exec_time.specs.Wheel.{Wheel, scheduled}
-use Rattle.exec_request.specs.{States.asks_cancel, declared.results.WaiterState.WaiterState, Requests.deadline_of}
-use Rattle.exec_waiters.specs.{Events.with_tick, States.{needs_permit, takes_tick, tick_in, waiter_at}, declared.{waiter.{Entry.TheVariants.Pending, Waiter.Waiter}, waiter_id.WaiterId.WaiterId}}
-use Rattle.exec_driver.{specs.{Driving.Driving, Punctual.IsPunctual, Steps.tick_for}, proofs.Expiring.tick_tells}
-use Rattle.exec_lists.specs.Lists.{first_of, rest_of, is_among, after_enrolment}
-use Rattle.exec_machine.specs.{declared.{state.RequestPhase.RequestPhase, config.Configuration.Configuration}, Tests.{is_staged}, World.{Own, Common}}
-use Rattle.exec_moves.specs.{State.{Desk}, Submit.{due_next, first_due, Due.Enrols}, declared.place.{Place.Place, InService.InService}}
-use Rattle.exec_parts.{specs.{declared.parts.{mail.Reply.Reply, record.Record.Record, shared.Shared.Shared, worker.Worker.Worker}, Records.number_in, Serving.{changed_at, first_tick, is_one_of}, View.{own_of, driver_of}}, proofs.Facts.by_name}
-use Rattle.exec_invariants.{specs.{Names.IsSubmitted, Sound.served_in, Due.IsWheelAt, Flown.{HasFlown, IsPlain, operations, AreLanded}, Submits.IsNewIn, Ordered.{IsOrdered, went_round}}, proofs.{Known.known_written, Changing.{all_go_one, OneGoesOn, changes_one, keeps_one}, Going.{owning_on, GoesOn}, Marking.{known_then, plain_kept, mark_kept, mark_if, marked, was_marked}, Carries.carried_still, Enrolled.new_first, Enrolling.enrolled_at, Flown.landed_on, ServingHolds.KeepsBy, Staging.{split_first, stages_again}, Orders.ticks_so}}
+use Rattle.exec_invariants.{specs.{Names.IsSubmitted, Sound.served_in, Due.IsWheelAt, Flown.{HasFlown, IsPlain, operations, AreLanded}, Submits.IsNewIn, Ordered.{IsOrdered, went_round}}, proofs.{Words.{◌≡◌, ◌≢◌, ℕ, ◌+◌, ◌^◌, ◌<◌, ◌==◌, Bool, true, false, List, [], Some, None, IfSome, refl, sym, ap, subst, ◌∙◌, arith, inl, slice_get, Ok, false≢true, unwrap_or, is_some, written, Id, Wheel, scheduled, asks_cancel, WaiterState, deadline_of, with_tick, needs_permit, takes_tick, tick_in, waiter_at, Pending, Waiter, WaiterId, Driving, IsPunctual, tick_for, tick_tells, first_of, rest_of, is_among, after_enrolment, RequestPhase, Configuration, is_staged, Own, Common, Desk, due_next, first_due, Enrols, Place, InService, Reply, Record, Shared, Worker, number_in, changed_at, first_tick, is_one_of, own_of, driver_of, by_name}, Known.known_written, Changing.{all_go_one, OneGoesOn, changes_one, keeps_one}, Going.{owning_on, GoesOn}, Marking.{known_then, plain_kept, mark_kept, mark_if, marked, was_marked}, Carries.carried_still, Enrolled.new_first, Enrolling.enrolled_at, Flown.landed_on, ServingHolds.KeepsBy, Staging.{split_first, stages_again}, Orders.ticks_so}}
 pub use Rattle.exec_invariants.proofs.Untold.{keeps_untold, told_still}
 
 -- THE WHEEL
@@ -66,16 +56,14 @@ module _ {B : Type 0} (w : Worker) (s : Shared B) (new : IsNewIn w s) (id : Wait
   submitted_timed t =
       let rs = s.requests.items in
       let k = number_in w.names.requests.items id.0 in
-      let c = s.config in
-      let start = w.moments.start in
-      let f = times start c.tick in
+      let f = times w.moments.start s.config.tick in
       let sub = new.submits.sound.named.submitted in
       let own : (k : ℕ) (x : Record) → is_one_of k w.names.staged.items ≡ true → slice_get timed_records k ≡ Some x → x.shown.worker ≡ w.index =
-      λ j x h found. let old = was_marked f rs k j x found in ap (λ y. y.shown.worker) old.2 ∙ mark_kept ℕ (λ x. x.shown.worker) (times start c.tick) (λ x. refl) (k == j) old.0 ∙ sub.own j old.0 h old.1 in
+      λ j x h found. let old = was_marked f rs k j x found in ap (λ y. y.shown.worker) old.2 ∙ mark_kept ℕ (λ x. x.shown.worker) (times w.moments.start s.config.tick) (λ x. refl) (k == j) old.0 ∙ sub.own j old.0 h old.1 in
       let all : (k : ℕ) (x : Record) → slice_get timed_records k ≡ Some x → x.shown.worker ≡ w.index → is_staged x.shown.phase ≡ true → is_one_of k w.names.staged.items ≡ true = λ j x found mine staged.
       let old = was_marked f rs k j x found in
-      sub.all j old.0 old.1 (sym (mark_kept ℕ (λ x. x.shown.worker) (times start c.tick) (λ x. refl) (k == j) old.0) ∙ sym (ap (λ y. y.shown.worker) old.2) ∙ mine)
-      (sym (ap is_staged (mark_kept RequestPhase (λ x. x.shown.phase) (times start c.tick) (λ x. refl) (k == j) old.0)) ∙ sym (ap (λ y. is_staged y.shown.phase) old.2) ∙ staged) in
+      sub.all j old.0 old.1 (sym (mark_kept ℕ (λ x. x.shown.worker) (times w.moments.start s.config.tick) (λ x. refl) (k == j) old.0) ∙ sym (ap (λ y. y.shown.worker) old.2) ∙ mine)
+      (sym (ap is_staged (mark_kept RequestPhase (λ x. x.shown.phase) (times w.moments.start s.config.tick) (λ x. refl) (k == j) old.0)) ∙ sym (ap (λ y. is_staged y.shown.phase) old.2) ∙ staged) in
       assumption (known_then f rs k w.names.staged.items sub.known, own, all, sub)
 
   flown_timed : (t : ℕ) → HasFlown (served_in (Place.Service (InService.Submit new.submits.gate) new.submits.service)) w.index w.names (timed_driver t) timed_records
@@ -90,7 +78,6 @@ module _ {B : Type 0} (w : Worker) (s : Shared B) (new : IsNewIn w s) (id : Wait
       let it = who.it in
       let it' = timed_waiter t in
       let d' = timed_driver t in
-      let rs' = timed_records in
       let flown = new.submits.sound.flown in
       let changed = changes_one d.requests id.0 it it' who.live in
       let all = all_go_one rs k f who.r who.there (record { same = refl; over = refl; ended = λ h. refl }) in
@@ -100,7 +87,7 @@ module _ {B : Type 0} (w : Worker) (s : Shared B) (new : IsNewIn w s) (id : Wait
       let is_it : x ≡ it' = cc (live, eq, changed.is_at) in
       flown.gated other it (ap (waiter_at d.requests) eq ∙ who.live) (ap needs_permit (sym is_it) ∙ needs)) in
       let plain = plain_kept f rs k (times_plain start c.tick) w.index (λ r. refl) flown.plain in
-      let landed_so : AreLanded w.names (timed_driver t) timed_records (operations (timed_driver t).ring) = landed_on w.names w.names d d' rs rs' (operations d.ring) flown.landed
+      let landed_so : AreLanded w.names (timed_driver t) timed_records (operations (timed_driver t).ring) = landed_on w.names w.names d d' rs timed_records (operations d.ring) flown.landed
       (λ other x r given live flies found landed.
       let j = number_in w.names.requests.items other in
       let apart : other ≢ id.0 = λ same.
@@ -119,14 +106,12 @@ module _ {B : Type 0} (w : Worker) (s : Shared B) (new : IsNewIn w s) (id : Wait
       let old = was_marked f rs k j x found in
       ap (λ y. y.shown.cancel_staged) old.2 ∙ mark_kept Bool (λ x. x.shown.cancel_staged) (times start c.tick) (λ x. refl) (k == j) old.0
       ∙ flown.uncancelled other old.0 among old.1 (sym (mark_kept ℕ (λ y. y.shown.worker) (times start c.tick) (λ y. refl) (k == j) old.0) ∙ sym (ap (λ y. y.shown.worker) old.2) ∙ mine) in
-      assumption (gated, plain, landed_so, owning_on rs rs' all flown.owning, enrolling, uncancelled, flown)
+      assumption (gated, plain, landed_so, owning_on rs timed_records all flown.owning, enrolling, uncancelled, flown)
 
   pub keeps_timed : (t : ℕ) → id.0.generation < 2 ^ 64 → tick_for (driver_of w).wheel (new_first w s new id first).deadline w.moments.sampled ≡ Ok t → IsPunctual (timed_driver t)
       → KeepsBy (record w { place = Place.Service (InService.Submit new.submits.gate) new.submits.service }) (timed_driver t) w.home.timers timed_records s.sleepers.items s
   keeps_timed t fits okay punctual =
-      let v = new.submits.service in
-      let gate = new.submits.gate in
-      let q : Place = Place.Service (InService.Submit gate) v in
+      let q : Place = Place.Service (InService.Submit new.submits.gate) new.submits.service in
       let sound = new.submits.sound in
       let d = driver_of w in
       let who = new_first w s new id first in
@@ -134,25 +119,22 @@ module _ {B : Type 0} (w : Worker) (s : Shared B) (new : IsNewIn w s) (id : Wait
       let it' = timed_waiter t in
       let c = s.config in
       let w0 : Worker = record w { place = q } in
-      let start = w.moments.start in
       let now = w.moments.sampled in
-      let f = times start c.tick in
-      let begun : start ≤ now = omega (arith, sound.time.begun, sound.time.ordered) in
+      let f = times w.moments.start c.tick in
       let plain = sound.flown.plain (number_in w.names.requests.items id.0) who.r who.there who.worker in
-      let bounded : who.deadline < 2 ^ 63 = subst (λ o. IfSome o (λ m. m < 2 ^ 63)) who.told plain.deadline in
-      let within : who.deadline + c.tick < 2 ^ 64 = omega (arith, bounded, sound.config.tick) in
-      let wheel : IsWheelAt c start now d.wheel = sound.due.wheel in
-      let place = enrolled_at c (own_of w0) d.wheel now who.deadline wheel refl sound.config.some_tick begun within t okay in
+      let within : who.deadline + c.tick < 2 ^ 64 = omega (arith, subst (λ o. IfSome o (λ m. m < 2 ^ 63)) who.told plain.deadline, sound.config.tick) in
+      let wheel : IsWheelAt c w.moments.start now d.wheel = sound.due.wheel in
+      let place = enrolled_at c (own_of w0) d.wheel now who.deadline wheel refl sound.config.some_tick (omega (arith, sound.time.begun, sound.time.ordered)) within t okay in
       let on : GoesOn who.r (f who.r) = record { same = refl; over = refl; ended = λ h. refl } in
       let a = who.alike in
       let free = unset it.state who.takes in
       let one : OneGoesOn w.names w.names d (timed_driver t) s.requests.items id.0 it it' who.r f = grind (arith, false≢true, same_start, same_tick) in
-      keeps_one q q w.put_off w.names w s (timed_driver t) id.0 it it' who.r f sound (stages_again gate v) one punctual (λ h. new.due)
+      keeps_one q q w.put_off w.names w s (timed_driver t) id.0 it it' who.r f sound (stages_again new.submits.gate new.submits.service) one punctual (λ h. new.due)
       (subst (IsOrdered (went_round c w.moments) w.names.requests.items (timed_driver t).requests (timed_driver t).wheel (rest_of d.lists.enrolments)) (sym new.due)
       (ticks_so (went_round c w.moments) w.names.requests.items d.requests d.wheel id (rest_of d.lists.enrolments) it t who.live who.takes fits (tick_tells d.wheel who.deadline now t okay).span
       (subst (λ ids. IsOrdered (went_round c w.moments) w.names.requests.items d.requests d.wheel ids []) (split_first id d.lists.enrolments first)
       (subst (IsOrdered (went_round c w.moments) w.names.requests.items d.requests d.wheel d.lists.enrolments) new.due sound.due.order))))
-      (one_more c start now d.wheel id.0 t wheel) refl (submitted_timed t) (flown_timed t)
+      (one_more c w.moments.start now d.wheel id.0 t wheel) refl (submitted_timed t) (flown_timed t)
       (carried_still w.names.requests.items d.requests d.ring s.requests.items s.store sound.carried id.0 it it' who.live refl (number_in w.names.requests.items id.0) f (λ r there. refl) (λ r there. refl) (λ r there. refl))
       refl
       (known_written w.index w.names.requests.items d.requests s.opens s.opens s.requests.items (number_in w.names.requests.items id.0) f (λ y. record { id = refl; worker = refl; kind = refl; target = refl; unrefused = λ h. h }) (λ file h. h) id.0 it it' who.r refl who.live who.there (inl (λ h. inl h)) sound.known)

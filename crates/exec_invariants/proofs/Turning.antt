@@ -1,11 +1,5 @@
 -- Steps that are a plain turn to the machine: the worker goes on, and only what stands beside the machine changes.
-use Rattle.std.proofs.{Common.{[], ◌≡◌, ◌≢◌, ℕ, ◌+◌, ◌*◌, ◌≤◌, ◌&&◌, ◌||◌, arith, Bool, true, false, Contains, List, length, Option, Some, refl, sym, ap, subst, ◌∙◌, slice_get, slice_set, option_to_list, IfSome, if◌then◌else◌}, lemmas.{List.set-get_or, Option.get_or_from_slice_get}}
-use Rattle.exec_task.specs.declared.{body.Said.Said, runnable.Runnable.Runnable}
-use Rattle.exec_machine.specs.{declared.{event.Event.{Event, TheVariants.Turn}, state.Next.Next}, Choice.Choice.Plain, Progress.Plan}
-use Rattle.exec_moves.specs.{declared.place.{Place.Place, InService.InService}, State.{Things, no_queue, no_word, queue_of, word_of}, Thing.{set_queue, set_word}, Move.move_at, Seen.{polls_at, next_at, serves_at}}
-use Rattle.exec_invariants.proofs.Leaves.{with_read}
-use Rattle.exec_parts.specs.{declared.parts.{role.Role.Role, seat.Seat.Seat as Chair, shared.Shared.Shared, task_slot.TaskSlot.TaskSlot, worker.{Worker.Worker, Moments.Moments}}, Phased.{IsPhased, closes_at, closing_in, stage_of}, Roles.is_pool, Calls.IsTold, Spots.Spot, View.{Views, Visible, with_view, driver_of, own_of, owed_at, desk_of, common_of, seats_seen, things_with}, Things.Goes}
-use Rattle.exec_invariants.{specs.{Rooted.HearsNext, HoldPlaces.{cancels_at, heard_at, sends_cancel_at, spare_at}, Due.{IsDue, IsWheelAt, wheel_moment}, Flown.HasFlown, Kinds.{Kind, kind_of, lowered}, Places.{begins_at, calls_back_at, hands_on_at, has_loot_at, in_poll_of, is_armed_at, is_pooled_at, or_polls, polled_in, searches_at, step_of_poll, task_at}, Sound.{Aims, AreHome, has_wakes_at, HasBatch, HasGuest, HasLetters, HasQueue, HasRunnable, IsHeld, IsInHand, IsInTime, IsLeft, IsLoot, IsSearching, IsSeated, IsTied, LetsGo, LetsGoAt, root_in_hand, served_in, Serves, SoundAt, Stops}, Names.tellers, Whole.IsGenuine, Works.{Beside, Suits, Steps}}, proofs.{Dedicated.by_length, Hearing.unheard}}
+use Rattle.exec_invariants.{specs.{Rooted.HearsNext, HoldPlaces.{cancels_at, heard_at, sends_cancel_at, spare_at}, Due.{IsDue, IsWheelAt, wheel_moment}, Flown.HasFlown, Kinds.{Kind, kind_of, lowered}, Places.{begins_at, calls_back_at, hands_on_at, has_loot_at, in_poll_of, is_armed_at, is_pooled_at, or_polls, polled_in, searches_at, step_of_poll, task_at}, Sound.{Aims, AreHome, has_wakes_at, HasBatch, HasGuest, HasLetters, HasQueue, HasRunnable, IsHeld, IsInHand, IsInTime, IsLeft, IsLoot, IsSearching, IsSeated, IsTied, LetsGo, LetsGoAt, root_in_hand, served_in, Serves, SoundAt, Stops}, Names.tellers, Whole.IsGenuine, Works.{Beside, Suits, Steps}}, proofs.{Words.{[], ◌≡◌, ◌≢◌, ℕ, ◌+◌, ◌*◌, ◌≤◌, ◌&&◌, ◌||◌, arith, Bool, true, false, Contains, List, length, Option, Some, refl, sym, ap, subst, ◌∙◌, slice_get, slice_set, option_to_list, IfSome, if◌then◌else◌, set-get_or, get_or_from_slice_get, Said, Runnable, Event, Turn, Next, Plain, Plan, Place, InService, Things, no_queue, no_word, queue_of, word_of, set_queue, set_word, move_at, polls_at, next_at, serves_at, Role, Chair, Shared, TaskSlot, Worker, Moments, IsPhased, closes_at, closing_in, stage_of, is_pool, IsTold, Spot, Views, Visible, with_view, driver_of, own_of, owed_at, desk_of, common_of, seats_seen, things_with, Goes}, Leaves.with_read, Dedicated.by_length, Hearing.unheard}}
 
 pub set_found : {A : Type 0} (xs : List A) (i : ℕ) (x : A) → slice_get xs i ≡ Some x → slice_set xs i x ≡ xs
 set_found xs i x found = ap (λ y. slice_set xs i y) (sym (get_or_from_slice_get xs i x x found)) ∙ set-get_or xs i x
@@ -104,8 +98,7 @@ module _ {B : Type 0} where
       record { punctual = to.due.punctual; told = to.due.told; wheel = subst (λ moment. IsWheelAt s.config w.moments.start moment (driver_of w).wheel) (sym (moment_read (served_in q') w.moments w'.moments.read)) to.due.wheel; timed = to.due.timed; asleep = to.due.asleep; order = to.due.order } in
       let w1 : Worker = record w { place = q'; countdown = w'.countdown; picks = w'.picks; spinner = w'.spinner; slept = w'.slept; moments = m; searching = w'.searching; rng = w'.rng; root_ready = w'.root_ready; hand = w'.hand; loot = w'.loot } in
       let s1 : Shared B = record s { seats = s'.seats; idle = s'.idle; global = s'.global } in
-      let homes : AreHome s.config.workers (length s'.seats.items) s.tasks.items = homes_more s.config.workers (length s.seats.items) (length s'.seats.items) s.tasks.items more sound.homes in
-      let there : SoundAt q' w1 s1 = assumption (homes, time, due, to, sound) in
+      let there : SoundAt q' w1 s1 = assumption (homes_more s.config.workers (length s.seats.items) (length s'.seats.items) s.tasks.items more sound.homes, time, due, to, sound) in
       subst (λ x. SoundAt q' w' x) (sym shares) (subst (λ x. SoundAt q' x s1) (sym on.same) there)
 
   -- WHAT THE KIND OF A PLACE SAYS
@@ -131,9 +124,7 @@ module _ {B : Type 0} where
 
   pub of_kind : (q q' : Place) (w : Worker) (s : Shared B) → SoundAt q w s → kind_of q' ≡ lowered w.role (is_pooled_at q') (kind_of q) → OfKind (kind_of q') w s
   of_kind q q' w s sound same =
-      let pooled : (is_pooled_at q' && (is_pooled_at q || is_pool w.role)) ≡ true → is_pool w.role ≡ true = pool_low (is_pooled_at q') (is_pooled_at q) (is_pool w.role) sound.pooled in
-      let here : OfKind (lowered w.role (is_pooled_at q') (kind_of q)) w s = assumption (pooled, sound) in
-      subst (λ k. OfKind k w s) (sym same) here
+      subst (λ k. OfKind k w s) (sym same) (assumption (pool_low (is_pooled_at q') (is_pooled_at q) (is_pool w.role) sound.pooled, sound))
 
   -- what a place needs beside its kind, with these seats
   pub record Fits (q : Place) (w : Worker) (s : Shared B) (seats : List Chair) : Type 0 where
@@ -195,18 +186,17 @@ module _ {B : Type 0} where
   fits_here q q' w s sound lands =
       assumption (subst (λ a. IsSeated w.index a s.config.workers s.seats.items) (ap (λ k. k.armed) (sym lands.same)) sound.seated, lands, sound, of_kind q q' w s sound lands.same)
 
-module _ {B L : Type 0} (left : B → L) (spot : L → Option Said → Spot) where
-  pub turned : (q : Place) (w w' : Worker) (s s' : Shared B) (e : Event) →
-      SoundAt q w s → e ≡ Turn → GoesOn w w' s.clock → Shares s s' → s'.global.closed ≡ s.global.closed → ((vs : List Visible) → seats_seen vs s'.seats.items ≡ seats_seen vs s.seats.items)
-      → IsTurn w.workers q w'.place → Arrives w'.place w w' s s' → Beside w s w' s'
-      → ((p : Plan) (vs : Views) → Suits p vs w s → move_at p.config w.index (own_of w) (common_of left spot p vs s) (desk_of w) (things_with vs s) q ≡ record { event = Turn; choice = Plain; desk = desk_of w'; thing = things_with vs s' })
-      → Steps left spot w s e w' s'
-  turned q w w' s s' e sound event on shares closed seats is to beside moves =
-      let q' : Place = w'.place in
-      let w1 : Worker = record w { place = q'; countdown = w'.countdown; picks = w'.picks; spinner = w'.spinner; slept = w'.slept; moments = with_read w'.moments.read w.moments; searching = w'.searching; rng = w'.rng; root_ready = w'.root_ready; hand = w'.hand; loot = w'.loot } in
-      let own : own_of w' ≡ own_of w1 = ap own_of on.same in (
-        grind (arith, view_found),
-        sound_on q w w' s s' sound on shares (by_length (beside.spares (w.index + 1) (next_other w.index)).many) to,
-        unheard (ap (λ x. x.root) on.same) (ap (λ x. x.config) shares) (ap (λ x. x.tasks.items) shares),
-        beside,
-      )
+pub turned : {B L : Type 0} (left : B → L) (spot : L → Option Said → Spot) (q : Place) (w w' : Worker) (s s' : Shared B) (e : Event) →
+    SoundAt q w s → e ≡ Turn → GoesOn w w' s.clock → Shares s s' → s'.global.closed ≡ s.global.closed → ((vs : List Visible) → seats_seen vs s'.seats.items ≡ seats_seen vs s.seats.items)
+    → IsTurn w.workers q w'.place → Arrives w'.place w w' s s' → Beside w s w' s'
+    → ((p : Plan) (vs : Views) → Suits p vs w s → move_at p.config w.index (own_of w) (common_of left spot p vs s) (desk_of w) (things_with vs s) q ≡ record { event = Turn; choice = Plain; desk = desk_of w'; thing = things_with vs s' })
+    → Steps left spot w s e w' s'
+turned left spot q w w' s s' e sound event on shares closed seats is to beside moves =
+    let q' : Place = w'.place in
+    let w1 : Worker = record w { place = q'; countdown = w'.countdown; picks = w'.picks; spinner = w'.spinner; slept = w'.slept; moments = with_read w'.moments.read w.moments; searching = w'.searching; rng = w'.rng; root_ready = w'.root_ready; hand = w'.hand; loot = w'.loot } in
+    let own : own_of w' ≡ own_of w1 = ap own_of on.same in (
+      grind (arith, view_found),
+      sound_on q w w' s s' sound on shares (by_length (beside.spares (w.index + 1) (next_other w.index)).many) to,
+      unheard (ap (λ x. x.root) on.same) (ap (λ x. x.config) shares) (ap (λ x. x.tasks.items) shares),
+      beside,
+    )

@@ -1,13 +1,5 @@
 -- Where nothing is told, what is left to be told stays, and there is room for it.
-use Rattle.std.proofs.{Common.{◌≡◌, ℕ, ◌==◌, ◌&&◌, ◌||◌, Bool, not, ◌∷◌, map, nat_lt, List, [], length, refl, sym, arith}, lemmas.{Bool.Decides.nat_tests, List.append-nil}}
-use Rattle.exec_base.specs.{Slab.Slab}
-use Rattle.exec_time.specs.declared.{timers.Sleeper.Sleeper as Sleeping}
-use Rattle.exec_waiters.specs.{Told.{Tells, is_untold, nothing_told}, declared.deferred.{Deferred.Deferred}}
-use Rattle.exec_driver.specs.Driving.{Driving}
-use Rattle.exec_machine.specs.{Tests.is_empty, World.Own as Books}
-use Rattle.exec_moves.specs.{Callback.has_callbacks, State.Desk}
-use Rattle.exec_parts.{specs.{Calls.IsTold, declared.parts.{mail.Reply.Reply, names.Names.Names, record.Record.Record, shared.Shared.Shared, sleeping.SleeperRecord.SleeperRecord, worker.Worker.Worker}, View.{completions_in, results_in}}, proofs.Facts.zero_false}
-use Rattle.exec_invariants.{specs.{Names.{HasWidth}, Rooted.{IsRooted}}, proofs.ServingHolds.KeepsWith}
+use Rattle.exec_invariants.{specs.{Names.HasWidth, Rooted.IsRooted}, proofs.{Words.{◌≡◌, ℕ, ◌==◌, ◌&&◌, ◌||◌, Bool, not, ◌∷◌, map, nat_lt, List, [], length, refl, sym, arith, nat_tests, append-nil, Slab, Sleeping, Tells, is_untold, nothing_told, Deferred, Driving, is_empty, Books, has_callbacks, Desk, IsTold, Reply, Names, Record, Shared, SleeperRecord, Worker, completions_in, results_in, zero_false}, ServingHolds.KeepsWith}}
 
 pub told_still : (ended : List ℕ) (n : ℕ) (left left' : Deferred Reply Reply) → Tells left left' nothing_told → IsTold ended left n → IsTold ended left' n
 told_still = grind (arith, append-nil)

@@ -1,18 +1,5 @@
 -- Who waits for a request changes, or nobody does any more, by which it may be cancelled: what that leaves as it was.
-use Rattle.std.{proofs.{Common.{◌≡◌, ◌≢◌, ◌⊎◌, inl, ⊎_elim, ℕ, ◌==◌, Bool, true, false, List, [], length, Option, Some, None, IsSome, refl, sym, ap, subst, ◌∙◌, slice_get, is_some}, lemmas.{Bool.{false≢true, eq-eqb}, List.length-set}}, specs.Prelude.◌≤◌}
-use Rattle.std.proofs.Common.{arith}
-use Rattle.exec_base.{specs.{Slab.{IsPast, Slab, value_at, written}, declared.slab.{Id.Id}}, proofs.Slots.{Updates-write, past-write}}
-use Rattle.exec_time.specs.declared.timers.Sleeper.{Sleeper as Sleeping}
-use Rattle.exec_request.specs.{declared.output.RequestOutput.RequestOutput, Requests.{deadline_of}}
-use Rattle.exec_ring.specs.declared.store.Store.{Store}
-use Rattle.exec_waiters.{specs.{States.{needs_permit, waiter_at, waiter_of, takes_tick, tick_in}, declared.{waiter.{Waiter.Waiter, Entry.{Entry, TheVariants.{Pending, Ready}}}, waiter_id.WaiterId.WaiterId}}, proofs.Changes.entry_of}
-use Rattle.exec_driver.specs.{Driving.Driving, Punctual.IsPunctual}
-use Rattle.exec_lists.specs.Lists.{is_among}
-use Rattle.exec_opens.specs.Opens.{OpenState}
-use Rattle.exec_machine.specs.{declared.config.Configuration.Configuration, Tests.{is_resolved, is_staged}}
-use Rattle.exec_moves.specs.declared.place.InService.{InService}
-use Rattle.exec_parts.{specs.{declared.parts.{mail.Reply.Reply, names.Names.Names, record.Record.Record, sleeping.SleeperRecord.SleeperRecord, worker.Moments.Moments}, Records.number_in, Serving.{AreKnown, changed_at}}, proofs.Facts.{by_name, same_number}}
-use Rattle.exec_invariants.{specs.{Due.{IsDue, IsWheelAt, AreTimed}, Gates.IsKnown, Flown.{AreLanded, IsPlain, IsPolled, HasFlown, operations}, Names.{IsNamed, IsAlike, IsSubmitted}, Sound.AreOver, Carried.IsCarried}, proofs.{Known.known_on, Flown.{FliesOn, landed_on}, Marking.{known_then, mark_if, marked, marked_length, was_marked}, Orders.{Eases, eases_written, IsPartOf, TurnsAlike, eased, part_none, part_self}, Carries.{carried_marked, carried_slab, carried_waiter}, Changing.changes_one}}
+use Rattle.exec_invariants.{specs.{Due.{IsDue, IsWheelAt, AreTimed}, Gates.IsKnown, Flown.{AreLanded, IsPlain, IsPolled, HasFlown, operations}, Names.{IsNamed, IsAlike, IsSubmitted}, Sound.AreOver, Carried.IsCarried}, proofs.{Words.{◌≡◌, ◌≢◌, ◌⊎◌, inl, ⊎_elim, ℕ, ◌==◌, Bool, true, false, List, [], length, Option, Some, None, IsSome, refl, sym, ap, subst, ◌∙◌, slice_get, is_some, false≢true, eq-eqb, length-set, ◌≤◌, arith, IsPast, Slab, value_at, written, Id, Updates-write, past-write, Sleeping, RequestOutput, deadline_of, Store, needs_permit, waiter_at, waiter_of, takes_tick, tick_in, Waiter, Entry, Pending, Ready, WaiterId, entry_of, Driving, IsPunctual, is_among, OpenState, Configuration, is_resolved, is_staged, InService, Reply, Names, Record, SleeperRecord, Moments, number_in, AreKnown, changed_at, by_name, same_number}, Known.known_on, Flown.{FliesOn, landed_on}, Marking.{known_then, mark_if, marked, marked_length, was_marked}, Orders.{Eases, eases_written, IsPartOf, TurnsAlike, eased, part_none, part_self}, Carries.{carried_marked, carried_slab, carried_waiter}, Changing.changes_one}}
 
 -- a request that isn't over stays so, in flight or not, with no deadline to be enrolled and no permit to come that it hadn't
 abbrev pub Rewatched : Option (Waiter Reply Reply) → Option (Waiter Reply Reply) → Type 0
@@ -95,8 +82,7 @@ module _ (i : ℕ) (n : Names) (d d' : Driving Reply Reply) (zs : Slab (Sleeping
       by_name x id
       (λ differs.
       let old : waiter_at d.requests x ≡ Some it = ap waiter_of (sym (by.others x differs)) ∙ live in
-      let some : IsSome (value_at d.requests x) = rw (entry_of (value_at d.requests x) it old) refl in
-      named.alike x it y old (other_there (number_in n.requests.items x) y (apart_number named x some differs) found))
+      named.alike x it y old (other_there (number_in n.requests.items x) y (apart_number named x (rw (entry_of (value_at d.requests x) it old) refl) differs) found))
       (λ same.
       let is : y ≡ f r = cc (found, ap (λ z. slice_get rs' (number_in n.requests.items z)) same, now_there) in
       subst (λ z. IsAlike d.wheel.start d.wheel.tick it z.shown) (sym is) (by.alike it (ap (waiter_at d'.requests) (sym same) ∙ live)))
@@ -108,12 +94,11 @@ module _ (i : ℕ) (n : Names) (d d' : Driving Reply Reply) (zs : Slab (Sleeping
 
   pub submitted_watched : IsSubmitted i n.staged.items n.untold.items d.ring rs → IsSubmitted i n.staged.items n.untold.items d'.ring rs'
   submitted_watched sub =
-      let known = subst (AreKnown n.staged.items) (sym by.records) (known_then f rs (number_in n.requests.items id) n.staged.items sub.known) in
       rw by.ring
       (record {
         tagged = sub.tagged;
         cancels = sub.cancels;
-        known = known;
+        known = subst (AreKnown n.staged.items) (sym by.records) (known_then f rs (number_in n.requests.items id) n.staged.items sub.known);
         own = λ j x h found. let old = before j x found in ap (λ y. y.shown.worker) old.is ∙ sub.own j old.o h old.at;
         all = λ j x found mine staged.
             let old = before j x found in
@@ -165,10 +150,9 @@ module _ (i : ℕ) (n : Names) (d d' : Driving Reply Reply) (zs : Slab (Sleeping
           carried_slab n.requests.items d.requests d'.ring rs' st c d'.requests
           (λ x. by_name x id (λ differs. ap waiter_of (by.others x differs)) (λ same. ap (waiter_at d'.requests) same ∙ now ∙ sym (ap (waiter_at d.requests) same ∙ at)))
       by_waiter (Some it) at now c =
-          let it' = now.0 in
-          let s1 = written d.requests id (Pending it') in
-          let one = changes_one d.requests id it it' at in
-          carried_slab n.requests.items s1 d'.ring rs' st (carried_waiter n.requests.items d.requests d'.ring rs' st c id it it' at now.3.0) d'.requests
+          let s1 = written d.requests id (Pending now.0) in
+          let one = changes_one d.requests id it now.0 at in
+          carried_slab n.requests.items s1 d'.ring rs' st (carried_waiter n.requests.items d.requests d'.ring rs' st c id it now.0 at now.3.0) d'.requests
           (λ x. by_name x id (λ differs. ap waiter_of (by.others x differs) ∙ sym (one.others x differs)) (λ same. ap (waiter_at d'.requests) same ∙ now.1 ∙ sym (ap (waiter_at s1) same ∙ one.is_at)))
 
   -- the request itself, by what waited for it
@@ -266,8 +250,7 @@ pub watched : (n : Names) (d d' : Driving Reply Reply) (rs : List Record) (id : 
     → ((x : WaiterId) → is_among x d'.lists.cancels ≡ true → (is_among x d.lists.cancels ≡ true) ⊎ ((x.0 ≡ id) × (r.shown.cancel_staged ≡ false)))
     → Watched n d d' rs (changed_at rs (number_in n.requests.items id) f) id r f
 watched n d d' rs id it it' r f at there name keeps open_still slab flies request takes needs ticks alike ring armed start tick turns enrolments gated cancels =
-    let some : IsSome (value_at d.requests id) = rw (entry_of (value_at d.requests id) it at) refl in
-    let map = Updates-write d.requests id (Pending it') some in
+    let map = Updates-write d.requests id (Pending it') (rw (entry_of (value_at d.requests id) it at) refl) in
     let now : waiter_at d'.requests id ≡ Some it' = ap (λ s. waiter_at s id) slab ∙ ap waiter_of map.changed in
     grind (arith, false≢true, apart, past-write, eases_written, not_taken, length-set)
 

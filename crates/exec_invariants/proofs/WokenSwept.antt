@@ -1,9 +1,5 @@
 -- What a sweep passes of the completions in front, and the first that is of an operation.
-use Rattle.std.{proofs.{Common.{[], ◌≡◌, ℕ, zero, suc, ◌&&◌, Bool, true, false, List, ◌∷◌, ◌++◌, Some, None, refl, sym, ap, ◌∙◌, replicate}, lemmas.{Bool.false≢true, List.{append_assoc, append-nil}}}, specs.List.flat_map}
-use Rattle.std.proofs.Common.{arith}
-use Rattle.exec_ring.specs.{Completions.wake_completion, Kernels.{next_completion, reaped, is_quiet}, Rings.{RingState, completions, spelled}, declared.completion.{Completion.Completion, Posted.Posted}}
-use Rattle.exec_driver.specs.{Driving.Driving, Steps.{is_control, noted, swept, swept_from}}
-use Rattle.exec_invariants.proofs.Behind.{after_controls, armed_through}
+use Rattle.exec_invariants.proofs.{Words.{[], ◌≡◌, ℕ, zero, suc, ◌&&◌, Bool, true, false, List, ◌∷◌, ◌++◌, Some, None, refl, sym, ap, ◌∙◌, replicate, false≢true, append_assoc, append-nil, flat_map, arith, wake_completion, next_completion, reaped, is_quiet, RingState, completions, spelled, Completion, Posted, Driving, is_control, noted, swept, swept_from}, Behind.{after_controls, armed_through}}
 
 -- A SWEEP
 
@@ -59,9 +55,7 @@ first_there (p ∷ ps) r c rest is all operates = by p.wakes refl (sym (one_spel
   where
     by : (n : ℕ) → p.wakes ≡ n → replicate n (wake_completion true) ++ (p.completion ∷ spelled_all ps r.wakes) ≡ c ∷ rest → FirstThere r c rest
     by zero none h =
-        let one : p.completion ≡ c = cc in
-        let more : spelled_all ps r.wakes ≡ rest = cc in
-        record { next = rw (is, none) (ap (λ x. Some x) one); left = rw (is, none) more }
+        record { next = rw (is, none) (ap (λ x. Some x) cc); left = rw (is, none) cc }
     by (suc n) some h =
         let woke : wake_completion true ≡ c = cc in
         absurd (false≢true (sym (ap is_control woke ∙ operates)))

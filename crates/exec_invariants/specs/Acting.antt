@@ -1,10 +1,6 @@
 -- What an act of a polled body is to the machine.
-use Rattle.std.specs.Prelude.{◌≡◌, ℕ, false, List, Option, Some, None, if◌then◌else◌}
-use Rattle.exec_task.specs.{Sight.Sight, declared.body.{Act.Act, Said.Said}}
-use Rattle.exec_machine.specs.{declared.event.Event.Event, Progress.Plan, Words.{next_word, moved_on}, World.Common}
-use Rattle.exec_moves.specs.declared.place.{InPoll.InPoll, Place.Place}
-use Rattle.exec_parts.specs.{Records.numbers_held, declared.parts.{shared.Shared.Shared, task_slot.TaskSlot.TaskSlot, worker.Worker.Worker}, Phased.is_complete, Polls.{MadeAct, OfSlot}, Scripts.{Asks, Covers, GoesOn, IsCodeOf, MakesBody, is_last}, Spots.{Spot, spot_of}, View.{Views, common_of, task_seen, body_in}}
-use Rattle.exec_invariants.specs.{Hearing.{CanHear, held_once_come}, Sound.{Sound, SoundAt}, Works.{Suits, BesideWith, WorksWith}}
+use Rattle.std.specs.Prelude.{◌≡◌, if◌then◌else◌}
+use Rattle.exec_invariants.specs.{Words.{ℕ, false, List, Option, Some, None, Sight, Act, Said, Event, Plan, next_word, moved_on, Common, InPoll, Place, numbers_held, Shared, TaskSlot, Worker, is_complete, MadeAct, OfSlot, Asks, Covers, GoesOn, IsCodeOf, MakesBody, is_last, Spot, spot_of, Views, common_of, task_seen, body_in}, Hearing.{CanHear, held_once_come}, Sound.{Sound, SoundAt}, Works.{Suits, BesideWith, WorksWith}}
 
 module _ {B L : Type 0} (left : B → L) (runs : L → Plan → Option ℕ → Type 0) (holds : L → Option Said → List ℕ) where
   -- The body of a task that isn't over and can still be told something runs the plan, and then knows what its task holds.

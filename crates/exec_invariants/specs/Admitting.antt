@@ -1,17 +1,6 @@
 -- What an act makes that needs memory: a request or a sleeper; and what is left where there is none.
-use Rattle.std.specs.{Prelude.{◌≡◌, ◌≢◌, ℕ, ◌+◌, ◌*◌, ◌^◌, ◌<◌, ◌≤◌, true, false, Bool, List, [], ◌∷◌, ◌++◌, length, Option, Some, None, is_some, slice_get, slice_set, IfSome, if◌then◌else◌}, Vec.vec_capacity, VecDeque.deque_capacity}
-use Rattle.exec_base.specs.{Slab.{live_count, next_id, inserted, IsPast, TakesId}, declared.{error.Error.TheVariants.NoMemory, task_no.TaskNo.TaskNo}}
-use Rattle.exec_time.specs.declared.timers.{TimerId.TimerId, Observer.Observer}
-use Rattle.exec_outcomes.specs.{Accounts.is_durable, declared.outcome.Kind.Kind}
-use Rattle.exec_request.specs.{Requests.{asked_of, deadline_of}, declared.request.Request.Request as Asking}
-use Rattle.exec_ring.specs.Stores.{Reserves}
-use Rattle.exec_waiters.specs.{States.gate_in, Told.{HasPlaces, Tells, nothing_told}, declared.{observer.Observer.TheVariants.Local, waiter_id.WaiterId.WaiterId}}
-use Rattle.exec_driver.specs.{Admission.{Admits, with_rooms}, Driving.{Driving, request_at}, Placed.ListsRequests, Punctual.IsPunctual, Footprints.footprint_of, Steps.{newcomer, told_at_admission}}
-use Rattle.exec_opens.specs.Opens.{OpenState, account_in, joined, open_named, with_named}
-use Rattle.exec_task.specs.declared.body.Said.{Said}
-use Rattle.exec_machine.specs.{declared.{event.Event.{Event, TheVariants.{Admit, Timer}}, state.{Operation.Operation, Waiting.Waiting}}, Deadlines.new_sleeper, Tests.is_of_file, Requests.{new_request, outcome_if_late, resolved_if}}
-use Rattle.exec_moves.specs.declared.place.{InPoll.InPoll, Place.Place}
-use Rattle.exec_parts.specs.{declared.parts.{mail.Reply.Reply, names.Names.Names, record.Record.Record, seat.Seat.Seat as Chair, shared.Shared.Shared, sleeping.SleeperRecord.SleeperRecord, task_slot.TaskSlot.TaskSlot, worker.Worker.Worker}, Records.{HasMailRoom, HasRequestRoom, HasTimerRoom, MakesMail, SameNames, file_named, numbers_held, operation_in}, View.{account_seen, driver_of}}
+use Rattle.std.specs.Prelude.{◌≡◌, ◌≢◌, ◌+◌, ◌*◌, ◌^◌, ◌<◌, ◌≤◌, ◌∷◌, ◌++◌, if◌then◌else◌}
+use Rattle.exec_invariants.specs.Words.{ℕ, true, false, Bool, List, [], length, Option, Some, None, is_some, slice_get, slice_set, IfSome, vec_capacity, deque_capacity, live_count, next_id, inserted, IsPast, TakesId, NoMemory, TaskNo, TimerId, Watching as Observer, is_durable, Kind, asked_of, deadline_of, Asking, Reserves, gate_in, HasPlaces, Tells, nothing_told, Local, WaiterId, Admits, with_rooms, Driving, request_at, ListsRequests, IsPunctual, footprint_of, newcomer, told_at_admission, OpenState, account_in, joined, open_named, with_named, Said, Event, Admit, Timer, Operation, Waiting, new_sleeper, is_of_file, new_request, outcome_if_late, resolved_if, InPoll, Place, Reply, Names, Record, Chair, Shared, SleeperRecord, TaskSlot, Worker, HasMailRoom, HasRequestRoom, HasTimerRoom, MakesMail, SameNames, file_named, numbers_held, operation_in, account_seen, driver_of}
 
 -- What its worker needs: each slot that once had something has a number, and what is over isn't released.
 pub record MayMake (w : Worker) : Type 0 where

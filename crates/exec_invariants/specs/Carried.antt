@@ -1,14 +1,7 @@
 -- WHAT THE KERNEL HAS: the operations in a ring are those of the requests that are Staged or fly, and what they may still
 -- move has room.
-use Rattle.std.specs.Prelude.{◌≡◌, ℕ, ◌-◌, ◌^◌, ◌<◌, ◌≤◌, ◌==◌, ◌&&◌, ◌||◌, Bool, true, false, List, [], ◌∷◌, length, filter, sum_by, slice_get, Some, if◌then◌else◌}
-use Rattle.exec_base.specs.{Slab.Slab, declared.slab.Id.Id}
-use Rattle.exec_outcomes.specs.{Lawful.{is_lawful, window_of}, Outcomes.bytes_of, declared.outcome.{OpResult.OpResult, Kind.Kind}}
-use Rattle.exec_request.specs.{Requests.{target_of, window_by}, Syncing.is_syncing, declared.{buffers.WriteBuffers.{WriteBuffers, TheVariants.{Single, Vectored}}, request.Request.Request as Asking}}
-use Rattle.exec_ring.specs.{Kernels.is_of, Rings.RingState, Sockets.SocketState, Stores.{HasStretch, socket_of}, declared.{completion.Submission.Submission, store.Store.Store}}
-use Rattle.exec_waiters.specs.{Ids.{user_data_of, index_in}, States.waiter_at, declared.waiter.{Entry.Entry, Waiter.Waiter}}
-use Rattle.exec_driver.specs.Footprints.{bytes_left}
-use Rattle.exec_machine.specs.{declared.state.{Operation.Operation, RequestPhase.{RequestPhase, TheVariants.{Staged, Flying, Landed, Resolved}}}, Requests.{asked_of, cursor_of}, Same.same_kind}
-use Rattle.exec_parts.specs.{declared.parts.{mail.Reply.Reply, record.Record.Record, shared.Shared.Shared, worker.Worker.Worker}, Records.number_in, View.driver_of}
+use Rattle.std.specs.Prelude.{◌≡◌, ◌-◌, ◌^◌, ◌<◌, ◌≤◌, ◌==◌, ◌&&◌, ◌||◌, ◌∷◌, if◌then◌else◌}
+use Rattle.exec_invariants.specs.Words.{ℕ, Bool, true, false, List, [], length, filter, sum_by, slice_get, Some, Slab, Id, is_lawful, window_of, bytes_of, OpResult, Kind, target_of, window_by, is_syncing, WriteBuffers, Single, Vectored, Asking, is_of, RingState, SocketState, HasStretch, socket_of, Submission, Store, user_data_of, index_in, waiter_at, Entry, Waiter, bytes_left, Operation, RequestPhase, Staged, Flying, Landed, Resolved, asked_in as asked_of, cursor_in as cursor_of, same_kind, Reply, Record, Shared, Worker, number_in, driver_of}
 
 -- The bytes that are sent or written lie in one buffer, so that an operation takes all that are left. There are so few of
 -- them that its admission made room for all.
@@ -77,9 +70,8 @@ pub record IsCarried (numbers : List ℕ) (requests : Slab (Entry Reply Reply)) 
   pub room : HasRoom records store
   pub stretch : (id : Id) (it : Waiter Reply Reply) → waiter_at requests id ≡ Some it → HasStretchFor it.request store
 
-module _ {B : Type 0} where
-  abbrev pub Carried : Worker → Shared B → Type 0
-  Carried w s = IsCarried w.names.requests.items (driver_of w).requests (driver_of w).ring s.requests.items s.store
+abbrev pub Carried : {B : Type 0} → Worker → Shared B → Type 0
+Carried w s = IsCarried w.names.requests.items (driver_of w).requests (driver_of w).ring s.requests.items s.store
 
 -- the kernel has the operation of this request, and may end it with this result
 pub record MayLand (records : List Record) (request : ℕ) (given : OpResult) : Type 0 where

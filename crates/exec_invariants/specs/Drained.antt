@@ -4,11 +4,8 @@
 -- there until one worker, who polled it, takes it out, unless a drain of the closed set did so before. Who has passed the
 -- shutdown barrier polls nothing and clears nothing, and found the closed set empty; it goes on only once all have passed.
 -- All ordinary tasks are over then; so no mailbox of the pool closes while an ordinary task may still send there.
-use Rattle.std.specs.Prelude.{◌≡◌, ◌⊎◌, ℕ, ◌+◌, ◌<◌, ◌≤◌, ◌==◌, ◌||◌, Bool, true, false, not, List, count_by, sum_by, slice_get, Option, Some, None}
-use Rattle.exec_task.specs.{Phases.is_polled, TaskSet.{AreAtHome, Set}}
-use Rattle.exec_parts.specs.MailPosts.{IsMailbox}
-use Rattle.exec_parts.specs.{declared.parts.{seat.Seat.Seat as Chair, task_slot.TaskSlot.TaskSlot}, Phased.is_complete}
-use Rattle.exec_invariants.specs.Places.{Drops}
+use Rattle.std.specs.Prelude.{◌≡◌, ◌⊎◌, ◌+◌, ◌<◌, ◌≤◌, ◌==◌, ◌||◌}
+use Rattle.exec_invariants.specs.{Words.{ℕ, Bool, true, false, not, List, count_by, sum_by, slice_get, Option, Some, None, is_polled, AreAtHome, Set, IsMailbox, Chair, TaskSlot, is_complete}, Places.Drops}
 
 -- how often task t stands in the set
 abbrev pub in_set : ℕ → Set (Unit {0}) → ℕ

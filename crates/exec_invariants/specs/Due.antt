@@ -1,12 +1,6 @@
 -- WHAT IS DUE NEXT: the wheel and the sleepers of a worker tell the moments that its records have.
-use Rattle.std.specs.Prelude.{◌≡◌, ℕ, ◌-◌, ◌/◌, Bool, true, false, ◌<◌, List, [], length, Option, Some, None, IsSome, slice_get}
-use Rattle.exec_base.specs.{Slab.{IsPast, Slab, value_at}, declared.slab.Id.Id}
-use Rattle.exec_time.specs.{Wheel.Wheel, declared.timers.Sleeper.Sleeper as Sleeping}
-use Rattle.exec_driver.specs.{Driving.Driving, Punctual.IsPunctual}
-use Rattle.exec_machine.specs.{declared.config.Configuration.Configuration, Ranges.{horizon, wheel_slots}, Tests.{is_asleep, is_resolved}}
-use Rattle.exec_moves.specs.declared.place.{AfterPermit.AfterPermit, InService.InService, Reaping.Reaping}
-use Rattle.exec_parts.specs.{declared.parts.{mail.Reply.Reply, names.Names.Names, record.Record.Record, sleeping.SleeperRecord.SleeperRecord, worker.Moments.Moments}, Records.number_in}
-use Rattle.exec_invariants.specs.Ordered.{IsOrdered, went_round}
+use Rattle.std.specs.Prelude.{◌≡◌, ◌-◌, ◌/◌, ◌<◌}
+use Rattle.exec_invariants.specs.{Words.{ℕ, Bool, true, false, List, [], length, Option, Some, None, IsSome, slice_get, IsPast, Slab, value_at, Id, Wheel, Sleeping, Driving, IsPunctual, Configuration, horizon, wheel_slots, is_asleep, is_resolved, AfterPermit, InService, Reaping, Reply, Names, Record, SleeperRecord, Moments, number_in}, Ordered.{IsOrdered, went_round}}
 
 -- from the advance of the wheel to the end of the submissions deadlines may be due and not told
 abbrev pub may_be_due : Option InService → Bool

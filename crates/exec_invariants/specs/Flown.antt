@@ -1,15 +1,6 @@
 -- WHAT HAS LANDED: the completions in a worker's ring, what its requests may be yet, and room for what ends.
-use Rattle.std.specs.{Prelude.{◌≡◌, ℕ, ◌+◌, ◌%◌, ◌^◌, ◌<◌, ◌≤◌, Bool, true, false, not, List, [], ◌∷◌, length, map, filter, slice_get, Option, Some, is_some, IfSome}, Vec.vec_capacity, VecDeque.deque_capacity}
-use Rattle.exec_base.specs.declared.slab.Id.{Id}
-use Rattle.exec_request.specs.{Requests.deadline_of, declared.window.Opcode.Opcode}
-use Rattle.exec_ring.specs.{Completions.result_in, Rings.{RingState, completions}, declared.completion.{Completion.Completion, Submission.Submission}}
-use Rattle.exec_waiters.specs.{Ids.{index_in, generation_in}, Events.is_lawful_for, States.{needs_permit, waiter_at, takes_tick}, declared.{waiter.Waiter.Waiter, waiter_id.WaiterId.WaiterId}}
-use Rattle.exec_driver.specs.{Driving.Driving, Steps.is_control}
-use Rattle.exec_lists.specs.Lists.{is_among}
-use Rattle.exec_machine.specs.{declared.state.{Request.Request, RequestPhase.TheVariants.Landed}, Tests.is_resolved}
-use Rattle.exec_moves.specs.declared.place.InService.{InService}
-use Rattle.exec_parts.specs.{declared.parts.{mail.Reply.Reply, names.Names.Names, record.Record.Record}, Records.number_in, Serving.is_one_of, View.{is_end, number_told}}
-use Rattle.exec_invariants.specs.Places.{one_if}
+use Rattle.std.specs.Prelude.{◌≡◌, ◌+◌, ◌%◌, ◌^◌, ◌<◌, ◌≤◌, ◌∷◌}
+use Rattle.exec_invariants.specs.{Words.{ℕ, Bool, true, false, not, List, [], length, map, filter, slice_get, Option, Some, is_some, IfSome, vec_capacity, deque_capacity, Id, deadline_of, Opcode, result_in, RingState, completions, Completion, Submission, index_in, generation_in, is_lawful_for, needs_permit, waiter_at, takes_tick, Waiter, WaiterId, Driving, is_control, is_among, Request, Landed, is_resolved, InService, Reply, Names, Record, number_in, is_one_of, is_end, number_told}, Places.one_if}
 
 -- A request whose operations count bytes within its pages, and whose deadline is near.
 pub record IsPlain (r : Request) : Type 0 where

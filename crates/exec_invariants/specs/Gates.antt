@@ -2,17 +2,8 @@
 --
 -- These are facts over what all workers share: the opens and the records. The one fact that rests on where a worker is stands
 -- among the balances.
-use Rattle.std.specs.Prelude.{◌≡◌, ◌≢◌, ℕ, ◌==◌, ◌&&◌, ◌≤◌, ◌<◌, ◌++◌, ◌^◌, Bool, true, false, not, List, [], count_by, length, option_to_list, Some, None, IsSome, slice_get}
-use Rattle.std.specs.List.{list_any}
-use Rattle.exec_base.specs.{Slab.{Slab, IsPast}, declared.slab.Id.Id}
-use Rattle.exec_outcomes.specs.{Accounts.is_durable, declared.outcome.Kind.Kind}
-use Rattle.exec_outcomes.specs.declared.outcome.Kind.TheVariants as kind
-use Rattle.exec_request.specs.{Requests.cursor_of, Hints.has_hint}
-use Rattle.exec_waiters.specs.{States.waiter_at, declared.waiter.{Entry.Entry, Waiter.Waiter}}
-use Rattle.exec_opens.specs.{Opens.{OpenState, account_in}, declared.opens.WaiterKey.WaiterKey}
-use Rattle.exec_machine.specs.Tests.{is_gated, is_of_file, is_resolved}
-use Rattle.exec_parts.specs.{declared.parts.{mail.Reply.Reply, record.Record.Record}, Records.number_in}
-use Rattle.exec_invariants.specs.Places.{Drops}
+use Rattle.std.specs.Prelude.{◌≡◌, ◌≢◌, ◌==◌, ◌&&◌, ◌≤◌, ◌<◌, ◌++◌, ◌^◌}
+use Rattle.exec_invariants.specs.{Words.{ℕ, Bool, true, false, not, List, [], count_by, length, option_to_list, Some, None, IsSome, slice_get, list_any, Slab, IsPast, Id, is_durable, Kind, kind, cursor_of, has_hint, waiter_at, Entry, Waiter, OpenState, account_in, WaiterKey, is_gated, is_of_file, is_resolved, Reply, Record, number_in}, Places.Drops}
 
 -- the line at a gate, who has the permit first
 abbrev pub line_at : OpenState → List WaiterKey

@@ -1,8 +1,6 @@
 -- What a task can be told next, and what it holds then.
-use Rattle.std.specs.Prelude.{◌≡◌, ◌⊎◌, ℕ, true, false, List, length, Option, Some, None, slice_get}
-use Rattle.exec_task.specs.declared.body.Said.{Said}
-use Rattle.exec_machine.specs.{declared.state.Waiting.Waiting, Tasks.without_newest}
-use Rattle.exec_parts.specs.{Phased.is_complete, Records.numbers_held, declared.parts.{shared.Shared.Shared, task_slot.TaskSlot.TaskSlot, worker.Worker.Worker}, View.body_in}
+use Rattle.std.specs.Prelude.{◌≡◌, ◌⊎◌}
+use Rattle.exec_invariants.specs.Words.{ℕ, true, false, List, length, Option, Some, None, slice_get, Said, Waiting, without_newest, is_complete, numbers_held, Shared, TaskSlot, Worker, body_in}
 
 -- what a task is told that waits for this; where it is known already, that
 abbrev pub CanHear : Option Said → Waiting → Said → Type 0

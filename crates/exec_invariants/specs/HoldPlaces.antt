@@ -1,20 +1,7 @@
 -- What a place says of what its worker tells: where callbacks follow, where messages about what a task held are sent, for whom an
 -- end was sent, and where no sleeper is left.
-use Rattle.std.specs.Prelude.{ℕ, ◌-◌, Bool, true, false, Option, Some, None}
-use Rattle.exec_moves.specs.declared.{handing.{AfterCallbacks.AfterCallbacks, AfterClaim.AfterClaim, AfterKick.AfterKick, AfterPush.AfterPush, AfterSignal.AfterSignal, Heard.Heard}, place.{Place.Place}}
-use Rattle.exec_moves.specs.Seen.{left_in_service}
-use Rattle.exec_invariants.specs.Places.{calls_after_leave}
-use Rattle.exec_moves.specs.declared.handing.AfterCallbacks.TheVariants as after
-use Rattle.exec_moves.specs.declared.handing.AfterClaim.TheVariants as claim
-use Rattle.exec_moves.specs.declared.handing.AfterKick.TheVariants as kick
-use Rattle.exec_moves.specs.declared.handing.AfterPush.TheVariants as push
-use Rattle.exec_moves.specs.declared.handing.AfterSend.TheVariants as send
-use Rattle.exec_moves.specs.declared.handing.AfterSignal.TheVariants as signal
-use Rattle.exec_moves.specs.declared.idling.Stay.TheVariants as stay
-use Rattle.exec_moves.specs.declared.place.InCallbacks.TheVariants as callback
-use Rattle.exec_moves.specs.declared.place.InClosing.TheVariants as closing
-use Rattle.exec_moves.specs.declared.place.InMail.TheVariants as mail
-use Rattle.exec_moves.specs.declared.place.Place.TheVariants as at
+use Rattle.std.specs.Prelude.{◌-◌}
+use Rattle.exec_invariants.specs.{Words.{ℕ, Bool, true, false, Option, Some, None, is_some, AfterCallbacks, AfterPush, Heard, Place, left_in_service, after, push, send, signal, stay, callback, closing, mail, at}, Places.{calls_after_leave, once_claimed, once_kicked, once_signalled}}
 
 -- THE CALLBACKS that a place is in, or comes back to once it has handed something on
 
@@ -22,33 +9,17 @@ abbrev pub callbacks_after_push : AfterPush → Option AfterCallbacks
 callbacks_after_push (push.CallBack n) = Some n
 callbacks_after_push _ = None
 
-abbrev pub callbacks_after_kick : AfterKick → Option AfterCallbacks
-callbacks_after_kick (kick.Leave b) = calls_after_leave b
-callbacks_after_kick (kick.Push b) = callbacks_after_push b
-
-abbrev pub callbacks_after_claim : AfterClaim → Option AfterCallbacks
-callbacks_after_claim (claim.Kick b) = callbacks_after_kick b
-callbacks_after_claim (claim.Global b) = callbacks_after_push b
-
-abbrev pub callbacks_after_signal : AfterSignal → Option AfterCallbacks
-callbacks_after_signal (signal.Claim b) = callbacks_after_claim b
-callbacks_after_signal (signal.Send b) = None
-
 abbrev pub callbacks_at : Place → Option AfterCallbacks
 callbacks_at (at.Callbacks x n) = Some n
 callbacks_at (at.LeaveSearch b) = calls_after_leave b
 callbacks_at (at.Push x b) = callbacks_after_push b
 callbacks_at (at.Global x b) = callbacks_after_push b
-callbacks_at (at.Kick x b) = callbacks_after_kick b
-callbacks_at (at.ClaimWorker set b) = callbacks_after_claim b
-callbacks_at (at.Signal x j b) = callbacks_after_signal b
+callbacks_at (at.Kick x b) = once_kicked calls_after_leave callbacks_after_push b
+callbacks_at (at.ClaimWorker set b) = once_claimed calls_after_leave callbacks_after_push b
+callbacks_at (at.Signal x j b) = once_signalled calls_after_leave callbacks_after_push (λ _. None) b
 callbacks_at _ = None
 
 -- WAKES are left only by a service or a closing, and paid by the callbacks after it; the mail lies between.
-
-abbrev pub calls_some : Option AfterCallbacks → Bool
-calls_some (Some n) = true
-calls_some None = false
 
 abbrev pub has_wakes_at : Place → Bool
 has_wakes_at (at.Service x v) = true
@@ -56,7 +27,7 @@ has_wakes_at (at.Mail x) = true
 has_wakes_at (at.Closing closing.Orphan) = true
 has_wakes_at (at.Closing closing.CloseSleeper) = true
 has_wakes_at (at.Closing closing.End) = true
-has_wakes_at p = calls_some (callbacks_at p)
+has_wakes_at p = is_some (callbacks_at p)
 
 -- THE ROOM that the messages of a turn have, of which each may tell one thing that nothing else made room for: of 64 as long as
 -- none was applied; of those that are left while they are applied; of none until what they told is told on
@@ -71,13 +42,9 @@ spare_at p = spare_before (callbacks_at p)
 
 -- LETTERS: messages about what a task held that is over are sent next, or a signal asked for by one
 
-abbrev pub cancels_after_signal : AfterSignal → Bool
-cancels_after_signal (signal.Send (send.Cancels b)) = true
-cancels_after_signal _ = false
-
 abbrev pub cancels_at : Place → Bool
 cancels_at (at.SendCancel b) = true
-cancels_at (at.Signal x j b) = cancels_after_signal b
+cancels_at (at.Signal x j (signal.Send (send.Cancels b))) = true
 cancels_at _ = false
 
 abbrev pub sends_cancel_at : Place → Bool

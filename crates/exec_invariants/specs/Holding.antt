@@ -3,16 +3,8 @@
 -- A task holds requests, and may wait for one of them or for a sleeper. Another worker may have these: it is told that the
 -- task waits for one elsewhere, and that nobody holds one any more. The facts are over what they speak of alone: of each
 -- task, request, sleeper and seat a part.
-use Rattle.std.specs.Prelude.{◌≡◌, ◌⊎◌, ℕ, ◌+◌, ◌-◌, ◌*◌, ◌<◌, ◌≤◌, ◌==◌, ◌&&◌, ◌||◌, Bool, true, false, not, Contains, List, count_by, length, map, sum_by, slice_get, Option, Some, None, IsSome, is_some, option_to_list, Result, Ok, Err, ◌++◌}
-use Rattle.exec_base.specs.declared.{error.Error.Error, one_shot.OneShotState.{OneShotState, TheVariants.{Open, Sent, Closed}}}
-use Rattle.exec_outcomes.specs.declared.outcome.Outcome.{Outcome, TheVariants.{Success, Failure}}
-use Rattle.exec_request.specs.{States.as_outcome, declared.output.RequestOutput.RequestOutput}
-use Rattle.exec_words.specs.declared.inbox.Message.{Message}
-use Rattle.exec_machine.specs.{declared.state.{Forwarding.Forwarding, Waiting.Waiting}, Tests.{is_open, is_unsent}}
-use Rattle.exec_machine.specs.declared.state.Forwarding.TheVariants as forwarding
-use Rattle.exec_parts.specs.{declared.parts.{held.Held.Held, letters.Letters.Letters, mail.Subject.Subject, record.Record.Record, seat.Seat.Seat as Chair, sleeping.SleeperRecord.SleeperRecord, task_slot.TaskSlot.TaskSlot}, Phased.is_complete, Records.{numbers_held, outcome_in}}
-use Rattle.exec_invariants.specs.Places.{one_if}
-use Rattle.exec_parts.specs.declared.parts.mail.Subject.TheVariants as subject
+use Rattle.std.specs.Prelude.{◌≡◌, ◌⊎◌, ◌+◌, ◌-◌, ◌*◌, ◌<◌, ◌≤◌, ◌==◌, ◌&&◌, ◌||◌, ◌++◌}
+use Rattle.exec_invariants.specs.{Words.{ℕ, Bool, true, false, not, Contains, List, count_by, length, map, sum_by, slice_get, Option, Some, None, IsSome, is_some, option_to_list, Result, Ok, Err, Error, OneShotState, Open, Sent, Closed, Outcome, Success, Failure, as_outcome, RequestOutput, Message, Forwarding, Waiting, is_open, is_unsent, forwarding, Held, Letters, Subject, Record, Chair, SleeperRecord, TaskSlot, is_complete, numbers_held, outcome_in, subject}, Places.one_if}
 
 -- MESSAGES
 

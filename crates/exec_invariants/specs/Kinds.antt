@@ -1,9 +1,6 @@
 -- What of a place most of its worker's facts rest on. A step between two places of one kind keeps those.
-use Rattle.std.specs.Prelude.{ℕ, ◌&&◌, ◌||◌, Bool, List, Option}
-use Rattle.exec_machine.specs.declared.state.{Letter.Letter, Next.Next}
-use Rattle.exec_moves.specs.{declared.{handing.AfterCallbacks.AfterCallbacks, place.{InClosing.InClosing, InPoll.InPoll, InService.InService, Place.Place}}, Seen.{next_at, polls_at, serves_at}}
-use Rattle.exec_parts.specs.{declared.parts.role.Role.Role, Phased.{closes_at, closing_in}, Roles.is_pool, View.owed_at}
-use Rattle.exec_invariants.specs.{Places.{Drops, begins_at, calls_back_at, claims_at, drops_at, hands_on_at, has_count_at, has_loot_at, is_armed_at, is_pooled_at, is_published_at, searches_at, step_of_poll}, Sound.served_in, HoldPlaces.{Hearing, cancels_at, heard_at, is_bare_at, sends_cancel_at, spare_at}}
+use Rattle.std.specs.Prelude.{◌&&◌, ◌||◌}
+use Rattle.exec_invariants.specs.{Words.{ℕ, Bool, List, Option, Letter, Next, AfterCallbacks, InClosing, InPoll, InService, Place, next_at, polls_at, serves_at, Role, closes_at, closing_in, is_pool, owed_at}, Places.{Drops, begins_at, calls_back_at, claims_at, drops_at, hands_on_at, has_count_at, has_loot_at, is_armed_at, is_pooled_at, is_published_at, searches_at, step_of_poll}, Sound.served_in, HoldPlaces.{Hearing, cancels_at, heard_at, is_bare_at, sends_cancel_at, spare_at}}
 
 pub record Kind : Type 0 where
   -- what the machine reads off it

@@ -1,3 +1,4 @@
+pub mod Words
 pub mod Submitting
 pub mod Raises
 pub mod Admitting

@@ -1,15 +1,6 @@
 -- How the requests of a worker in its driver, what was told of them, and their numbers go together; and what is left to be told.
-use Rattle.std.specs.{Prelude.{◌≡◌, ℕ, Bool, true, false, ◌+◌, ◌*◌, ◌≤◌, count_by, List, length, slice_get, Some, None, is_some, IsSome}, Option.option_map, VecDeque.deque_capacity}
-use Rattle.exec_base.specs.{Slab.{Slab, value_at, live_count}, declared.{slab.{Id.Id, Slot.{Slot, TheVariants.{Live, Vacant, Retired}}}, task_no.TaskNo.TaskNo}}
-use Rattle.exec_outcomes.specs.{Accounts.is_durable, Outcomes.HasCome, declared.outcome.Judged.Judged}
-use Rattle.exec_time.specs.declared.timers.Sleeper.{Sleeper as Sleeping}
-use Rattle.exec_request.specs.{Kept.seen_by, Requests.{asked_of, cursor_of, hinted_of, deadline_of}, States.asks_cancel}
-use Rattle.exec_ring.specs.Rings.{RingState}
-use Rattle.exec_waiters.specs.{Events.waker_in, States.{waiter_at, is_held, is_held_by, needs_permit, tick_in, pending_count}, declared.{deferred.Deferred.Deferred, waiter.{Entry.Entry, Waiter.Waiter}}}
-use Rattle.exec_driver.specs.Driving.{Driving}
-use Rattle.exec_machine.specs.{declared.state.Request.Request, Requests.asked_of as asked_in, Tests.{is_gated, is_kept, is_staged, is_in_flight, is_resolved}}
-use Rattle.exec_parts.specs.{declared.parts.{mail.Reply.Reply, names.Names.Names, record.Record.Record, sleeping.SleeperRecord.SleeperRecord}, Records.number_in, Serving.{AreKnown, AreTagged, cancels_in, is_one_of}}
-use Rattle.exec_invariants.specs.{Gates.may_ask_hint, Rooted.IsNear}
+use Rattle.std.specs.Prelude.{◌≡◌, ◌+◌, ◌*◌, ◌≤◌}
+use Rattle.exec_invariants.specs.{Words.{ℕ, Bool, true, false, count_by, List, length, slice_get, Some, None, is_some, IsSome, option_map, deque_capacity, Slab, value_at, live_count, Id, Slot, Live, Vacant, Retired, TaskNo, is_durable, HasCome, Judged, Sleeping, seen_by, asked_of, cursor_of, hinted_of, deadline_of, asks_cancel, RingState, waker_in, waiter_at, is_held, is_held_by, needs_permit, tick_in, pending_count, Deferred, Entry, Waiter, Driving, Request, asked_in, is_gated, is_kept, is_staged, is_in_flight, is_resolved, Reply, Names, Record, SleeperRecord, number_in, AreKnown, AreTagged, cancels_in, is_one_of}, Gates.may_ask_hint, Rooted.IsNear}
 
 -- WHAT IS LEFT TO BE TOLD (`IsTold` of `exec_parts/specs/Calls`)
 

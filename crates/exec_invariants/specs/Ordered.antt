@@ -1,10 +1,6 @@
 -- THE ORDER in which the deadlines of a worker are told.
-use Rattle.std.specs.{Prelude.{◌≡◌, ℕ, ◌+◌, ◌-◌, ◌/◌, ◌%◌, ◌^◌, ◌<◌, ◌≤◌, ◌⊎◌, Bool, false, List, [], ◌∷◌, Option, Some, nat_le, if◌then◌else◌}, List.AllByRecursion}
-use Rattle.exec_base.specs.{Slab.{Slab, IsPast}, declared.slab.Id.Id}
-use Rattle.exec_time.specs.Wheel.{Wheel}
-use Rattle.exec_waiters.specs.{States.{awaits_tick, tick_of, waiter_at}, declared.{waiter.Entry.Entry, waiter_id.WaiterId.WaiterId}}
-use Rattle.exec_machine.specs.{declared.config.Configuration.Configuration, Ranges.wheel_slots}
-use Rattle.exec_parts.specs.{declared.parts.{mail.Reply.Reply, worker.Moments.Moments}, Records.number_in}
+use Rattle.std.specs.Prelude.{◌≡◌, ◌+◌, ◌-◌, ◌/◌, ◌%◌, ◌^◌, ◌<◌, ◌≤◌, ◌⊎◌, ◌∷◌, if◌then◌else◌}
+use Rattle.exec_invariants.specs.Words.{ℕ, Bool, false, List, [], Option, Some, nat_le, AllByRecursion, Slab, IsPast, Id, Wheel, awaits_tick, tick_of, waiter_at, Entry, WaiterId, Configuration, wheel_slots, Reply, Moments, number_in}
 
 abbrev pub Pairwise : {X : Type 0} → (X → X → Type 0) → List X → Type 0
 Pairwise R [] = Unit {0}

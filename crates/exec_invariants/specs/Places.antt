@@ -1,40 +1,28 @@
 -- What a place says of its worker: which poll it is in, what is in its hands, whether its bit is published, how many search
 -- counts it carries, and which run queue it has claimed.
-use Rattle.std.specs.Prelude.{ℕ, ◌==◌, Bool, true, false, Option, Some, None, if◌then◌else◌}
+use Rattle.std.specs.Prelude.{◌==◌, if◌then◌else◌}
+use Rattle.exec_invariants.specs.Words.{ℕ, Bool, true, false, Option, Some, None, polls_at, AfterCallbacks, AfterClaim, AfterKick, AfterLeave, AfterPush, AfterSend, AfterSignal, AfterWait, InLook, InRingWait, InWordWait, Stay, AfterService, InClosing, InPoll, Place, after, claim, kick, leave, pop, cancels, send, signal, global, kicks, pushes, next, look, ring, scan, word, back, callback, closing, poll, service, at}
 pub use Rattle.exec_moves.specs.Counts.{one_if}
-use Rattle.exec_moves.specs.{Seen.polls_at, declared.{handing.{AfterCallbacks.AfterCallbacks, AfterCancels.AfterCancels, AfterClaim.AfterClaim, AfterKick.AfterKick, AfterLeave.AfterLeave, AfterPush.AfterPush, AfterSend.AfterSend, AfterSignal.AfterSignal}, idling.{AfterWait.AfterWait, InLook.InLook, InRingWait.InRingWait, InWordWait.InWordWait, Stay.Stay}, place.{AfterService.AfterService, InClosing.InClosing, InPoll.InPoll, Place.Place}}}
-use Rattle.exec_moves.specs.declared.handing.AfterCallbacks.TheVariants as after
-use Rattle.exec_moves.specs.declared.handing.AfterClaim.TheVariants as claim
-use Rattle.exec_moves.specs.declared.handing.AfterKick.TheVariants as kick
-use Rattle.exec_moves.specs.declared.handing.AfterLeave.TheVariants as leave
-use Rattle.exec_moves.specs.declared.handing.AfterPop.TheVariants as pop
-use Rattle.exec_moves.specs.declared.handing.AfterCancels.TheVariants as cancels
-use Rattle.exec_moves.specs.declared.handing.AfterSend.TheVariants as send
-use Rattle.exec_moves.specs.declared.handing.AfterSignal.TheVariants as signal
-use Rattle.exec_moves.specs.declared.handing.InGlobal.TheVariants as global
-use Rattle.exec_moves.specs.declared.handing.InKick.TheVariants as kicks
-use Rattle.exec_moves.specs.declared.handing.InPush.TheVariants as pushes
-use Rattle.exec_moves.specs.declared.idling.AfterWait.TheVariants as next
-use Rattle.exec_moves.specs.declared.idling.InLook.TheVariants as look
-use Rattle.exec_moves.specs.declared.idling.InRingWait.TheVariants as ring
-use Rattle.exec_moves.specs.declared.idling.InScan.TheVariants as scan
-use Rattle.exec_moves.specs.declared.idling.InWordWait.TheVariants as word
-use Rattle.exec_moves.specs.declared.place.AfterService.TheVariants as back
-use Rattle.exec_moves.specs.declared.place.InCallbacks.TheVariants as callback
-use Rattle.exec_moves.specs.declared.place.InClosing.TheVariants as closing
-use Rattle.exec_moves.specs.declared.place.InPoll.TheVariants as poll
-use Rattle.exec_moves.specs.declared.place.InService.TheVariants as service
-use Rattle.exec_moves.specs.declared.place.Place.TheVariants as at
+
+-- WHAT FOLLOWS once somebody was kicked, claimed or signalled: what follows a returned count, a push or a message
+
+abbrev pub once_kicked : {A : Type 0} → (AfterLeave → A) → (AfterPush → A) → AfterKick → A
+once_kicked leaves pushes (kick.Leave b) = leaves b
+once_kicked leaves pushes (kick.Push b) = pushes b
+
+abbrev pub once_claimed : {A : Type 0} → (AfterLeave → A) → (AfterPush → A) → AfterClaim → A
+once_claimed leaves pushes (claim.Kick b) = once_kicked leaves pushes b
+once_claimed leaves pushes (claim.Global b) = pushes b
+
+abbrev pub once_signalled : {A : Type 0} → (AfterLeave → A) → (AfterPush → A) → (AfterSend → A) → AfterSignal → A
+once_signalled leaves pushes sends (signal.Claim b) = once_claimed leaves pushes b
+once_signalled leaves pushes sends (signal.Send b) = sends b
 
 -- THE POLL that a worker is in, once it has begun: what is handed on for an act is within it
 
-abbrev pub step_after_signal : AfterSignal → InPoll
-step_after_signal (signal.Send (send.Pend t)) = poll.Pend
-step_after_signal _ = poll.Act
-
 abbrev pub step_of_poll : Place → InPoll
 step_of_poll (at.Poll t x) = x
-step_of_poll (at.Signal x j b) = step_after_signal b
+step_of_poll (at.Signal x j (signal.Send (send.Pend t))) = poll.Pend
 step_of_poll _ = poll.Act
 
 abbrev pub in_poll_of : ℕ → Option ℕ → InPoll → Option InPoll
@@ -52,24 +40,12 @@ abbrev pub begins_after_leave : AfterLeave → Option ℕ
 begins_after_leave (leave.Poll t) = Some t
 begins_after_leave _ = None
 
-abbrev pub begins_after_kick : AfterKick → Option ℕ
-begins_after_kick (kick.Leave b) = begins_after_leave b
-begins_after_kick (kick.Push b) = None
-
-abbrev pub begins_after_claim : AfterClaim → Option ℕ
-begins_after_claim (claim.Kick b) = begins_after_kick b
-begins_after_claim (claim.Global b) = None
-
-abbrev pub begins_after_signal : AfterSignal → Option ℕ
-begins_after_signal (signal.Claim b) = begins_after_claim b
-begins_after_signal (signal.Send b) = None
-
 abbrev pub begins_at : Place → Option ℕ
 begins_at (at.Poll t poll.BeginPoll) = Some t
 begins_at (at.LeaveSearch b) = begins_after_leave b
-begins_at (at.Kick x b) = begins_after_kick b
-begins_at (at.ClaimWorker set b) = begins_after_claim b
-begins_at (at.Signal x j b) = begins_after_signal b
+begins_at (at.Kick x b) = once_kicked begins_after_leave (λ _. None) b
+begins_at (at.ClaimWorker set b) = once_claimed begins_after_leave (λ _. None) b
+begins_at (at.Signal x j b) = once_signalled begins_after_leave (λ _. None) (λ _. None) b
 begins_at _ = None
 
 -- a callback is about to be made, once a search count is returned
@@ -77,24 +53,12 @@ abbrev pub calls_after_leave : AfterLeave → Option AfterCallbacks
 calls_after_leave (leave.CallBack n) = Some n
 calls_after_leave _ = None
 
-abbrev pub calls_after_kick : AfterKick → Option AfterCallbacks
-calls_after_kick (kick.Leave b) = calls_after_leave b
-calls_after_kick (kick.Push b) = None
-
-abbrev pub calls_after_claim : AfterClaim → Option AfterCallbacks
-calls_after_claim (claim.Kick b) = calls_after_kick b
-calls_after_claim (claim.Global b) = None
-
-abbrev pub calls_after_signal : AfterSignal → Option AfterCallbacks
-calls_after_signal (signal.Claim b) = calls_after_claim b
-calls_after_signal (signal.Send b) = None
-
 abbrev pub calls_back_at : Place → Option AfterCallbacks
 calls_back_at (at.Callbacks callback.CallBack n) = Some n
 calls_back_at (at.LeaveSearch b) = calls_after_leave b
-calls_back_at (at.Kick x b) = calls_after_kick b
-calls_back_at (at.ClaimWorker set b) = calls_after_claim b
-calls_back_at (at.Signal x j b) = calls_after_signal b
+calls_back_at (at.Kick x b) = once_kicked calls_after_leave (λ _. None) b
+calls_back_at (at.ClaimWorker set b) = once_claimed calls_after_leave (λ _. None) b
+calls_back_at (at.Signal x j b) = once_signalled calls_after_leave (λ _. None) (λ _. None) b
 calls_back_at _ = None
 
 -- a runnable in the hand is to be queued
@@ -144,14 +108,10 @@ is_published_in_look look.Publish = false
 is_published_in_look look.ReturnClaimed = false
 is_published_in_look _ = true
 
-abbrev pub is_of_turn : Stay → Bool
-is_of_turn Stay.Turn = true
-is_of_turn Stay.Closing = false
-
 -- it has published its bit, and not withdrawn it
 abbrev pub is_published_at : Place → Bool
 is_published_at (at.Look x) = is_published_in_look x
-is_published_at (at.RingWait x stay) = is_of_turn stay
+is_published_at (at.RingWait x Stay.Turn) = true
 is_published_at (at.WordWait x) = true
 is_published_at (at.Withdraw next) = true
 is_published_at _ = false
@@ -205,22 +165,10 @@ abbrev pub pooled_push : AfterPush → Bool
 pooled_push AfterPush.Pick = true
 pooled_push _ = false
 
-abbrev pub pooled_kick : AfterKick → Bool
-pooled_kick (kick.Push b) = pooled_push b
-pooled_kick (kick.Leave b) = false
-
-abbrev pub pooled_claim : AfterClaim → Bool
-pooled_claim (claim.Kick b) = pooled_kick b
-pooled_claim (claim.Global b) = pooled_push b
-
 abbrev pub pooled_send : AfterSend → Bool
 pooled_send (AfterSend.Tell worker) = true
 pooled_send (AfterSend.Cancels b) = true
 pooled_send _ = false
-
-abbrev pub pooled_signal : AfterSignal → Bool
-pooled_signal (signal.Claim b) = pooled_claim b
-pooled_signal (signal.Send b) = pooled_send b
 
 abbrev pub pooled_in_closing : InClosing → Bool
 pooled_in_closing closing.CloseQueue = true
@@ -232,10 +180,6 @@ pooled_in_closing (closing.Clear t drain) = true
 pooled_in_closing closing.LeaveBarrier = true
 pooled_in_closing _ = false
 
-abbrev pub pooled_in_poll : InPoll → Bool
-pooled_in_poll poll.RemoveTask = true
-pooled_in_poll _ = false
-
 abbrev pub is_pooled_at : Place → Bool
 is_pooled_at (at.Pick x) = true
 is_pooled_at (at.Pop x b) = true
@@ -244,12 +188,12 @@ is_pooled_at (at.Scan x) = true
 is_pooled_at (at.Look x) = true
 is_pooled_at (at.Withdraw n) = true
 is_pooled_at (at.SendCancel b) = true
-is_pooled_at (at.Poll t x) = pooled_in_poll x
+is_pooled_at (at.Poll t poll.RemoveTask) = true
 is_pooled_at (at.Push x b) = pooled_push b
 is_pooled_at (at.Global x b) = pooled_push b
-is_pooled_at (at.Kick x b) = pooled_kick b
-is_pooled_at (at.ClaimWorker set b) = pooled_claim b
-is_pooled_at (at.Signal x j b) = pooled_signal b
+is_pooled_at (at.Kick x b) = once_kicked (λ _. false) pooled_push b
+is_pooled_at (at.ClaimWorker set b) = once_claimed (λ _. false) pooled_push b
+is_pooled_at (at.Signal x j b) = once_signalled (λ _. false) pooled_push pooled_send b
 is_pooled_at (at.Closing x) = pooled_in_closing x
 is_pooled_at _ = false
 
@@ -279,19 +223,10 @@ abbrev pub clears_at : Place → Option ℕ
 clears_at (at.Closing (closing.Clear t drain)) = Some t
 clears_at _ = None
 
--- or once what it held is told
-abbrev pub removes_after_cancels : AfterCancels → Option ℕ
-removes_after_cancels (cancels.Remove t) = Some t
-removes_after_cancels _ = None
-
-abbrev pub removes_after_signal : AfterSignal → Option ℕ
-removes_after_signal (signal.Claim b) = None
-removes_after_signal (signal.Send (send.Cancels b)) = removes_after_cancels b
-removes_after_signal (signal.Send _) = None
-
+-- at once, or once what it held is told
 abbrev pub removes_at : Place → Option ℕ
-removes_at (at.SendCancel b) = removes_after_cancels b
-removes_at (at.Signal x j b) = removes_after_signal b
+removes_at (at.SendCancel (cancels.Remove t)) = Some t
+removes_at (at.Signal x j (signal.Send (send.Cancels (cancels.Remove t)))) = Some t
 removes_at (at.Poll t poll.RemoveTask) = Some t
 removes_at _ = None
 

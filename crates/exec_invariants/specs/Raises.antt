@@ -1,7 +1,6 @@
 -- Wakes that were raised for a worker's ring wait at its seat. The next step that names the ring takes them in first.
-use Rattle.std.specs.Prelude.{◌≡◌, slice_get, slice_set, Some}
-use Rattle.exec_machine.specs.declared.event.Event.{Event}
-use Rattle.exec_parts.specs.{declared.parts.{seat.Seat.Seat as Chair, shared.Shared.Shared, worker.Worker.Worker}, Pooled.with_raises, Serving.EntersRing, View.driver_of}
+use Rattle.std.specs.Prelude.{◌≡◌}
+use Rattle.exec_invariants.specs.Words.{slice_get, slice_set, Some, Event, Chair, Shared, Worker, with_raises, EntersRing, driver_of}
 
 module _ {B : Type 0} where
   -- The wakes that waited at its seat are in its ring, and nothing else has changed.

@@ -1,15 +1,6 @@
 -- WHAT A WORKER KEEPS of what was made on it: outputs for who takes them, who waits for what, and ends to be sent elsewhere.
-use Rattle.std.specs.Prelude.{◌≡◌, ℕ, ◌+◌, ◌==◌, ◌&&◌, ◌||◌, ◌≤◌, Bool, true, false, not, Contains, List, count_by, Option, Some, None, IsSome, slice_get}
-use Rattle.exec_base.specs.{Slab.{Slab, value_at}, declared.slab.Id.Id}
-use Rattle.exec_request.specs.declared.output.RequestOutput.{RequestOutput}
-use Rattle.exec_time.specs.declared.{notes.ForwardedResult.ForwardedResult, timers.{Observer.Observer as Watching, Sleeper.Sleeper as Sleeping}}
-use Rattle.exec_time.specs.declared.timers.Observer.TheVariants as sleep
-use Rattle.exec_waiters.specs.{States.waiter_at, declared.{deferred.{Answer.Answer, Deferred.Deferred}, observer.Observer.{Observer, TheVariants.{Local, Forwarded, DetachedSync, Orphaned}}, waiter.{Entry.TheVariants.Ready, Waiter.Waiter}}}
-use Rattle.exec_driver.specs.Driving.{Driving}
-use Rattle.exec_machine.specs.{declared.state.{Forwarding.Forwarding, RequestPhase.TheVariants.Resolved}, Tests.{is_applied, is_resolved}}
-use Rattle.exec_moves.specs.declared.handing.Heard.{Heard}
-use Rattle.exec_parts.specs.{declared.parts.{mail.Reply.Reply, names.Names.Names, record.Record.Record, sleeping.SleeperRecord.SleeperRecord}, Records.number_in}
-use Rattle.exec_invariants.specs.{Holding.{IsAnswerOf, outcome_told, thing_of}, HoldPlaces.Hearing, Places.one_if}
+use Rattle.std.specs.Prelude.{◌≡◌, ◌+◌, ◌==◌, ◌&&◌, ◌||◌, ◌≤◌}
+use Rattle.exec_invariants.specs.{Words.{ℕ, Bool, true, false, not, Contains, List, count_by, Option, Some, None, IsSome, slice_get, Slab, value_at, Id, RequestOutput, ForwardedResult, Watching, Sleeping, Watching as sleep, waiter_at, Answer, Deferred, Observer, Local, Forwarded, DetachedSync, Orphaned, Ready, Waiter, Driving, Forwarding, Resolved, is_applied, is_resolved, Heard, Reply, Names, Record, SleeperRecord, number_in}, Holding.{IsAnswerOf, outcome_told, thing_of}, HoldPlaces.Hearing, Places.one_if}
 pub use Rattle.exec_invariants.specs.Holding.{outcome_told}
 
 -- Who waits for a request is a task of its worker, or nobody; or one elsewhere, just where that was told to its worker.

@@ -1,17 +1,8 @@
 -- What holds of a worker and of what it shares, between two steps.
 --
 -- Each fact is over the parts that it speaks of, so what changes another part keeps it.
-use Rattle.std.specs.Prelude.{◌≡◌, ◌≢◌, ℕ, Bool, true, false, not, ◌+◌, ◌*◌, ◌^◌, ◌<◌, ◌≤◌, ◌==◌, ◌⊎◌, nat_lt, Contains, List, [], length, slice_get, Option, Some, None, is_some, IsSome, IfSome, option_to_list, if◌then◌else◌}
-use Rattle.exec_base.specs.{Slab.{Slab, value_at, live_count}, declared.slab.Id.Id}
-use Rattle.exec_words.specs.{Head.is_spent, Idle.lowest_of, Queue.{Queue, room_of, tail_of}, Reserved.Reserved, declared.{head.Head.Head, inbox.Message.Message, word.WaitTarget.WaitTarget}}
-use Rattle.exec_time.specs.declared.timers.Sleeper.{Sleeper as Sleeping}
-use Rattle.exec_waiters.specs.{States.{is_held_at, pending_count}, Told.is_untold, declared.{deferred.Deferred.Deferred, waiter.Entry.Entry}}
-use Rattle.exec_task.specs.{Phases.{runnable_of, is_polled}, declared.{runnable.Runnable.Runnable, task.Phase.Phase}}
-use Rattle.exec_machine.specs.{declared.{config.Configuration.Configuration, state.{Waiting.Waiting}}, Ranges.ring_size, Tests.{is_empty, is_resolved, is_unsent}}
-use Rattle.exec_moves.specs.{Pop.shard_count, Search.from_of, Seen.polls_at, declared.{handing.{AfterCallbacks.AfterCallbacks, AfterSend.AfterSend, AfterSignal.AfterSignal, InGlobal.InGlobal, InKick.InKick, InPop.InPop, InPush.InPush}, idling.{AfterWait.AfterWait, InLook.InLook, InRingWait.InRingWait, InScan.InScan, Scan.Scan}, place.{InClosing.InClosing, InMail.InMail, InPick.InPick, InPoll.InPoll, InService.InService, Place.Place}}}
-use Rattle.exec_parts.specs.Calls.{IsTold}
-use Rattle.exec_parts.specs.{declared.parts.{held.Held.Held, letters.Letters.Letters, mail.{Reply.Reply, Subject.Subject}, record.Record.Record, seat.Seat.Seat as Chair, shared.Shared.Shared, sleeping.SleeperRecord.SleeperRecord, task_slot.TaskSlot.TaskSlot, worker.{Worker.Worker, Moments.Moments}, role.Role.Role}, MailPosts.IsMailbox, View.{driver_of, letters_in}, Phased.{IsPhased, closes_at, closing_in, is_complete, stage_of}, Roles.{MayBegin, is_pool, owns_runner}}
-use Rattle.exec_invariants.specs.{Carried.Carried, Places.{begins_at, calls_back_at, hands_on_at, has_loot_at, is_armed_at, polled_in, searches_at, step_of_poll, is_pooled_at, task_at}, Gates.{AreLinedUp, IsKnown}, Due.IsDue, Flown.HasFlown, Holding.Mail, HoldPlaces.{cancels_at, heard_at, is_bare_at, sends_cancel_at, spare_at}, Rooted.{HearsNext, IsRooted}, Whole.IsGenuine, Names.{tellers, HasWidth, IsNamed}}
+use Rattle.std.specs.Prelude.{◌≡◌, ◌≢◌, ◌+◌, ◌*◌, ◌^◌, ◌<◌, ◌≤◌, ◌==◌, ◌⊎◌, if◌then◌else◌}
+use Rattle.exec_invariants.specs.{Words.{ℕ, Bool, true, false, not, nat_lt, Contains, List, [], length, slice_get, Option, Some, None, is_some, IsSome, IfSome, option_to_list, Slab, value_at, live_count, Id, is_spent, lowest_of, Queue, room_of, tail_of, Reserved, Head, Message, WaitTarget, Sleeping, is_held_at, pending_count, is_untold, Deferred, Entry, runnable_of, is_polled, Runnable, Phase, Configuration, Waiting, ring_size, is_empty, is_resolved, is_unsent, shard_count, from_of, polls_at, AfterCallbacks, AfterSend, AfterSignal, InGlobal, InKick, InPop, InPush, AfterWait, InLook, InRingWait, InScan, Scan, InClosing, InMail, InPick, InPoll, InService, Place, IsTold, Held, Letters, Reply, Subject, Record, Chair, Shared, SleeperRecord, TaskSlot, Worker, Moments, Role, IsMailbox, driver_of, letters_in, IsPhased, closes_at, closing_in, is_complete, stage_of, MayBegin, is_pool, owns_runner}, Carried.Carried, Places.{begins_at, calls_back_at, hands_on_at, has_loot_at, is_armed_at, polled_in, searches_at, step_of_poll, is_pooled_at, task_at}, Gates.{AreLinedUp, IsKnown}, Due.IsDue, Flown.HasFlown, Holding.Mail, HoldPlaces.{cancels_at, heard_at, is_bare_at, sends_cancel_at, spare_at}, Rooted.{HearsNext, IsRooted}, Whole.IsGenuine, Names.{tellers, HasWidth, IsNamed}}
 pub use Rattle.exec_invariants.specs.HoldPlaces.{has_wakes_at}
 
 -- the ranges of a configuration that sums rest on
@@ -316,7 +307,6 @@ module _ {B : Type 0} where
   abbrev pub AreResting : List (TaskSlot B) → Type 0
   AreResting tasks = (t : ℕ) (slot : TaskSlot B) → slice_get tasks t ≡ Some slot → slot.home ≡ None → is_polled slot.cell.phase ≡ false → IsResting slot
 
-module _ {B : Type 0} where
   -- a runnable in the hand is the root's where that is polled next, and else one of an ordinary task
   abbrev pub IsHeld : Option ℕ → ℕ → List (TaskSlot B) → Runnable → Type 0
   IsHeld begins root tasks r = (begins ≡ Some root) ⊎ IsGenuine tasks r

@@ -1,12 +1,6 @@
 -- WHAT A STEP LEAVES OF ANOTHER WORKER: what it alone touches, and of what is shared all that it relies on.
-use Rattle.std.specs.Prelude.{◌≡◌, ℕ, ◌<◌, ◌≤◌, Bool, true, false, ◌⊎◌, List, [], length, slice_get, Some}
-use Rattle.exec_ring.specs.Stores.{HasStretch}
-use Rattle.exec_words.specs.Queue.{Queue, claimed, released, tail_of}
-use Rattle.exec_task.specs.{Phases.is_polled, TaskSet.shard_at, declared.runnable.Runnable.Runnable}
-use Rattle.exec_machine.specs.{declared.state.Forwarding.TheVariants.{Unsent, Sent, Applied}, Tests.{is_resolved, is_unsent}}
-use Rattle.exec_parts.specs.MailPosts.{IsMailbox}
-use Rattle.exec_parts.specs.declared.parts.{record.Record.Record, seat.Seat.Seat as Chair, shared.Shared.Shared, sleeping.SleeperRecord.SleeperRecord, task_slot.TaskSlot.TaskSlot}
-use Rattle.exec_invariants.specs.{Carried.HasRoom, Gates.{AreLinedUp, has_hint_at}, Whole.IsGenuine}
+use Rattle.std.specs.Prelude.{◌≡◌, ◌<◌, ◌≤◌, ◌⊎◌}
+use Rattle.exec_invariants.specs.{Words.{ℕ, Bool, true, false, List, [], length, slice_get, Some, HasStretch, Queue, claimed, released, tail_of, is_polled, shard_at, Runnable, Unsent, SentOn as Sent, Applied, is_resolved, is_unsent, IsMailbox, Record, Chair, Shared, SleeperRecord, TaskSlot}, Carried.HasRoom, Gates.{AreLinedUp, has_hint_at}, Whole.IsGenuine}
 
 -- a thief has claimed values of a run queue that had two at least, or released its claim; or nobody touched it
 abbrev pub Thins : Queue Runnable → Queue Runnable → Type 0

@@ -1,12 +1,6 @@
 -- The middle of a service: what it does next, by what its driver has.
-use Rattle.std.specs.Prelude.{◌≡◌, ℕ, true, [], map, Some, None}
-use Rattle.exec_waiters.specs.declared.waiter_id.WaiterId.{WaiterId}
-use Rattle.exec_lists.specs.Lists.{first_of, has_first}
-use Rattle.exec_driver.specs.{Placed.ListsRequests, Steps.lowest_gate}
-use Rattle.exec_machine.specs.Deadlines.{is_first_due}
-use Rattle.exec_moves.specs.{Serve.first_numbered, declared.place.{InService.InService, Service.Service, Place.Place}}
-use Rattle.exec_parts.specs.{declared.parts.{shared.Shared.Shared, worker.Worker.Worker}, Records.number_in, View.{driver_of, own_of}}
-use Rattle.exec_invariants.specs.Sound.{SoundAt}
+use Rattle.std.specs.Prelude.{◌≡◌}
+use Rattle.exec_invariants.specs.{Words.{ℕ, true, [], map, Some, None, WaiterId, first_of, has_first, ListsRequests, lowest_gate, is_first_due, first_numbered, InService, Service, Place, Shared, Worker, number_in, driver_of, own_of}, Sound.SoundAt}
 
 module _ {B : Type 0} where
   -- No deadline has come, none is new, and no request waits at a gate from this one on.

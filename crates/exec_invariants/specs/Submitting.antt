@@ -1,13 +1,6 @@
 -- What the stagings of a service do to a worker and to the records of its requests, and where a request that is over leads.
-use Rattle.std.specs.Prelude.{◌≡◌, ℕ, ◌<◌, ◌&&◌, ◌||◌, Bool, true, false, not, List, [], ◌∷◌, ◌++◌, length, Option, Some, None, if◌then◌else◌}
-use Rattle.exec_request.specs.Hints.{has_hint}
-use Rattle.exec_waiters.specs.{States.file_of, declared.{waiter.Waiter.Waiter, waiter_id.WaiterId.WaiterId}}
-use Rattle.exec_driver.specs.{Driving.{Driving, request_at, is_full, may_stage_one}, Steps.{cancel_staged, poll_staged, StagesOne}}
-use Rattle.exec_lists.specs.Lists.{has_first}
-use Rattle.exec_opens.specs.Opens.{OpenState, account_in}
-use Rattle.exec_machine.specs.{declared.{event.Event.{Event, TheVariants.{Cancel, Stage}}, state.RequestPhase.RequestPhase}, Requests.with_hint}
-use Rattle.exec_moves.specs.{Serve.after_permit, declared.place.{AfterPermit.AfterPermit, InService.InService, Service.Service}}
-use Rattle.exec_parts.specs.{declared.parts.{mail.Reply.Reply, record.Record.Record, shared.Shared.Shared, worker.Worker.Worker}, Records.{file_named, number_in}, Serving.{changed_at, with_staging_ended}, View.driver_of}
+use Rattle.std.specs.Prelude.{◌≡◌, ◌<◌, ◌&&◌, ◌||◌, ◌∷◌, ◌++◌, if◌then◌else◌}
+use Rattle.exec_invariants.specs.Words.{ℕ, Bool, true, false, not, List, [], length, Option, Some, None, has_hint, file_of, Waiter, WaiterId, Driving, request_at, is_full, may_stage_one, cancel_staged, poll_staged, StagesOne, has_first, OpenState, account_in, Event, Cancel, Stage, RequestPhase, with_hint, after_permit, AfterPermit, InService, Service, Reply, Record, Shared, Worker, file_named, number_in, changed_at, with_staging_ended, driver_of}
 
 -- a request that gives a permit up, and one that doesn't
 abbrev pub after_giving_up : Option ℕ → AfterPermit → InService

@@ -2,14 +2,8 @@
 -- count is what the parties hold, and each live task stands once in the task set.
 --
 -- Each is a balance of what the parties have with what they share. A step of one keeps it whatever the others have.
-use Rattle.std.specs.Prelude.{◌≡◌, nat_lt, ℕ, ◌+◌, ◌^◌, ◌<◌, ◌≤◌, ◌==◌, ◌&&◌, ◌||◌, Bool, true, false, not, Contains, List, ◌++◌, count_by, length, map, sum_by, slice_get, Option, Some, None, option_to_list, if◌then◌else◌}
-use Rattle.std.specs.List.{range_with_len}
-use Rattle.exec_words.specs.Idle.{is_in}
-use Rattle.exec_task.specs.{Phases.{is_polled, runnable_of}, declared.{runnable.Runnable.Runnable, task.Phase.Phase}}
-use Rattle.exec_task.specs.declared.task.Phase.TheVariants as cell
-use Rattle.exec_moves.specs.Seen.{polls_at}
-use Rattle.exec_parts.specs.declared.parts.{seat.Seat.Seat as Chair, shared.Shared.Shared, task_slot.TaskSlot.TaskSlot, worker.Worker.Worker}
-use Rattle.exec_invariants.specs.{Drained.{Duties, IsPool}, Places.{Drops, claims_at, clears_at, drops_at, has_count_at, is_published_at, one_if}, Gates.HaveGates, Holding.{Hands, IsHolding, Mail, box_of, holder_of, mail_in, mail_of_letters, nap_of, thing_of}}
+use Rattle.std.specs.Prelude.{◌≡◌, ◌+◌, ◌^◌, ◌<◌, ◌≤◌, ◌==◌, ◌&&◌, ◌||◌, ◌++◌, if◌then◌else◌}
+use Rattle.exec_invariants.specs.{Words.{nat_lt, ℕ, Bool, true, false, not, Contains, List, count_by, length, map, sum_by, slice_get, Option, Some, None, option_to_list, range_with_len, is_in, is_polled, runnable_of, Runnable, Phase, cell, polls_at, Chair, Shared, TaskSlot, Worker}, Drained.{Duties, IsPool}, Places.{Drops, claims_at, clears_at, drops_at, has_count_at, is_published_at, one_if}, Gates.HaveGates, Holding.{Hands, IsHolding, Mail, box_of, holder_of, mail_in, mail_of_letters, nap_of, thing_of}}
 pub use Rattle.exec_invariants.specs.Places.{is_number}
 
 -- what parties have: how many runnables of each task, how many polls of it; how many claims of each run queue; how many

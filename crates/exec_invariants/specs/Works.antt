@@ -2,13 +2,8 @@
 --
 -- Each place's step says that it is its move, what else of the worker stays, and what becomes of the one thing that it names
 -- (`exec_parts`). From these follows, for a group of places, what a step is to the machine (`Works`).
-use Rattle.std.specs.Prelude.{◌≡◌, ◌≢◌, ◌≤◌, ◌^◌, ℕ, suc, [], ◌∷◌, ◌++◌, Option, Some, None, slice_get, length}
-use Rattle.exec_task.specs.declared.body.Said.{Said}
-use Rattle.exec_machine.specs.{declared.event.Event.Event, Choice.Choice, Tests.AllTrue, Tasks.new_own, Allowed.allowed, After.{own_after, common_after}, Progress.Plan}
-use Rattle.exec_machine.specs.declared.event.Event.TheVariants as event
-use Rattle.exec_moves.specs.{Move.move, Plays.first_desk}
-use Rattle.exec_parts.specs.{declared.parts.{shared.Shared.Shared, worker.Worker.Worker}, Spots.Spot, View.{Views, visible, with_view, own_of, desk_of, common_of, things_with}}
-use Rattle.exec_invariants.specs.{Hearing.StillHears, Sound.Sound, Spares.{Spares, SparesMore}, Whole.{Profile, with_worker, IsWhole}}
+use Rattle.std.specs.Prelude.{◌≡◌, ◌≢◌, ◌≤◌, ◌^◌, ◌∷◌, ◌++◌}
+use Rattle.exec_invariants.specs.{Words.{ℕ, suc, [], Option, Some, None, slice_get, length, Said, Event, Choice, AllTrue, new_own, allowed, own_after, common_after, Plan, event, move, first_desk, Shared, Worker, Spot, Views, visible, with_view, own_of, desk_of, common_of, things_with}, Hearing.StillHears, Sound.Sound, Spares.{Spares, SparesMore}, Whole.{Profile, with_worker, IsWhole}}
 
 -- A worker that a step has made is visible behind the others, and has its part of the balances.
 abbrev pub with_born : Option Worker → Views → Views

@@ -1,17 +1,8 @@
 -- What stands under each name, and how many are in a place, once one entry changed.
-use Rattle.std.proofs.Common.{◌≡◌, ◌≢◌, ℕ, ◌+◌, ◌≤◌, Bool, true, false, cond, Option, Some, None, refl, arith}
-use Rattle.std.specs.Prelude.{count_by}
-use Rattle.std.proofs.lemmas.List.{set-get_or}
-use Rattle.std.proofs.lemmas.List.Sums.{sum_by-set, sum_by-le-sum_by}
-use Rattle.std.specs.Prelude.{is_some}
-use Rattle.exec_base.specs.{Slab.{Slab, value_at, written, is_live, live_count}, declared.slab.Id.Id}
-use Rattle.exec_waiters.{specs.{States.{waiter_at, waiter_in, waiter_of, is_flying, pending_count, flying_count}, declared.waiter.{Waiter.Waiter, Entry.Entry}}, proofs.Changes.one_if}
-use Rattle.exec_lists.specs.Listed.{count_of}
-use Rattle.exec_base.specs.{Slab.{removed, freed}, declared.slab.Slot.{Slot, TheVariants.{Vacant, Retired}}}
-use Rattle.exec_base.proofs.Slots.{Changed-set, Updates-write, Updates-free}
-use Rattle.exec_waiters.specs.States.{counts_pending, counts_flying}
-use Rattle.exec_waiters.proofs.Changes.{at_by}
-use Rattle.exec_lists.specs.Listed.{counts}
+use Rattle.std.{proofs.{Common.{◌≡◌, ◌≢◌, ℕ, ◌+◌, ◌≤◌, Bool, false, cond, Option, Some, None, refl, arith}, lemmas.List.{set-get_or, Sums.{sum_by-set, sum_by-le-sum_by}}}, specs.Prelude.{count_by, is_some}}
+use Rattle.exec_base.{specs.{Slab.{Slab, value_at, written, is_live, live_count, removed, freed}, declared.slab.{Id.Id, Slot.{Slot, TheVariants.{Vacant, Retired}}}}, proofs.Slots.{Changed-set, Updates-write, Updates-free}}
+use Rattle.exec_waiters.{specs.{States.{waiter_at, waiter_in, waiter_of, is_flying, pending_count, flying_count, counts_pending, counts_flying}, declared.waiter.{Waiter.Waiter, Entry.Entry}}, proofs.Changes.{one_if, at_by}}
+use Rattle.exec_lists.specs.Listed.{count_of, counts}
 
 module _ {S F : Type 0} where
   asking_of : (o : Slot (Entry S F)) → counts_pending o ≡ counts is_some o
@@ -34,8 +25,7 @@ module _ {S F : Type 0} where
     pub numbers : (place : Option (Waiter S F) → Bool) → place None ≡ false → count_of place s' + one_if (place was) ≡ count_of place s + one_if (place is)
 
   freed_by : (place : Option (Waiter S F) → Bool) (b : Bool) (h : ℕ) → one_if (counts place (cond b (Vacant h) Retired)) ≡ 0
-  freed_by place true h = refl
-  freed_by place false h = refl
+  freed_by = grind arith
 
   -- an entry that is there, written again
   pub same_written : (s : Slab (Entry S F)) (id : Id) (e : Entry S F) → value_at s id ≡ Some e → written s id e ≡ s
@@ -55,16 +45,10 @@ module _ {S F : Type 0} where
       let map = Updates-free s (removed s id) id was (Changed-set s (removed s id) id.index (freed id.generation) refl refl there.within) there.slot in
       grind (arith, waiter_of, one_if, freed_by, sum_by-set)
 
-  flies_less : (o : Slot (Entry S F)) → one_if (counts_flying o) ≤ one_if (counts_pending o)
-  flies_less = grind arith
-
   -- no more requests are in flight than aren't over
   pub flying_few : (s : Slab (Entry S F)) → flying_count s ≤ pending_count s
-  flying_few s = sum_by-le-sum_by (λ o. one_if (counts_flying o)) (λ o. one_if (counts_pending o)) s.slots flies_less
-
-  asks_less : (o : Slot (Entry S F)) → one_if (counts_pending o) ≤ one_if (is_live o)
-  asks_less = grind arith
+  flying_few s = sum_by-le-sum_by (λ o. one_if (counts_flying o)) (λ o. one_if (counts_pending o)) s.slots (grind arith)
 
   -- nor aren't over than are there
   pub pending_few : (s : Slab (Entry S F)) → pending_count s ≤ live_count s
-  pending_few s = sum_by-le-sum_by (λ o. one_if (counts_pending o)) (λ o. one_if (is_live o)) s.slots asks_less
+  pending_few s = sum_by-le-sum_by (λ o. one_if (counts_pending o)) (λ o. one_if (is_live o)) s.slots (grind arith)

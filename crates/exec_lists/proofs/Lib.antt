@@ -1,4 +1,3 @@
 pub mod Names
-pub mod Slots
 pub mod Counting
 pub mod Shifts

@@ -1,4 +1,3 @@
 pub mod Lists
-pub mod NameList
 pub mod Listed
 pub mod Examples

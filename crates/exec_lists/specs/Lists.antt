@@ -1,6 +1,5 @@
 -- The places of a driver: for each the requests in it, in order of coming.
-use Rattle.std.specs.Prelude.{ℕ, Bool, true, false, not, ◌==◌, ◌&&◌, List, [], ◌∷◌, ◌++◌, filter, Option, Some, None, if◌then◌else◌}
-use Rattle.std.specs.List.{list_any}
+use Rattle.std.specs.{Prelude.{◌≡◌, ℕ, Bool, true, false, not, ◌+◌, ◌<◌, ◌==◌, ◌&&◌, nat_lt, List, [], ◌∷◌, ◌++◌, filter, length, slice_index, Option, Some, None, if◌then◌else◌}, List.list_any}
 use Rattle.exec_waiters.specs.declared.waiter_id.WaiterId.{WaiterId}
 
 pub record Lists : Type 0 where
@@ -85,3 +84,17 @@ after_due l = record l { due = rest_of l.due }
 
 abbrev pub after_cancel : Lists → Lists
 after_cancel l = record l { cancels = rest_of l.cancels }
+
+-- how many of the names of a list have a slot
+abbrev pub in_slot : ℕ → List WaiterId → ℕ
+in_slot slot [] = 0
+in_slot slot (id ∷ ids) = if id.0.index == slot then 1 + in_slot slot ids else in_slot slot ids
+
+-- each count is that of its slot
+abbrev pub AreCounted : List WaiterId → List ℕ → Type 0
+AreCounted ids counts = (slot : ℕ) → slot < length counts → slice_index counts slot ≡ in_slot slot ids
+
+-- each name has one of the first slots
+abbrev pub are_within : ℕ → List WaiterId → Bool
+are_within slots [] = true
+are_within slots (id ∷ ids) = nat_lt id.0.index slots && are_within slots ids

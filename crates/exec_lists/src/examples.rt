@@ -2,7 +2,7 @@
 
 ghost use Rattle.std.specs.Prelude.{◌≡◌, [], ◌∷◌, Some, None, true, false};
 ghost use Rattle.exec_waiters.specs.{Examples.{here, awaited, flying, alone}, States.{is_flying, is_idle}};
-ghost use Rattle.exec_lists.specs.{Lists.{no_lists, is_same, without, is_among, has_first, first_of, rest_of, withdrawn, with_queued, with_due, with_cancel, after_queued}, Listed.{is_once, are_all, count_of}, NameList.{in_slot, are_within}, Examples.{first, second, later, both_queued, both_due}};
+ghost use Rattle.exec_lists.specs.{Lists.{no_lists, is_same, without, is_among, has_first, first_of, rest_of, withdrawn, with_queued, with_due, with_cancel, after_queued, in_slot, are_within}, Listed.{is_once, are_all, count_of}, Examples.{first, second, later, both_queued, both_due}};
 
 /// Who comes first leaves a place first, and no other place has it.
 pub fn order()

@@ -4,9 +4,8 @@
 //! place, and that none is in two, is for the driver to know; here are the lists alone, with room for as many requests
 //! as `make_room` was told, so no other call takes memory.
 
-ghost use Rattle.std.specs.Prelude.{◌≡◌, ◌<◌, ◌≤◌, false, length, max, if◌then◌else◌, OnOk, OnErr};
-ghost use Rattle.std.specs.VecDeque.{deque_capacity};
-ghost use Rattle.exec_lists.specs.Lists.{no_lists, without, is_among, has_first, first_of, withdrawn, with_queued, with_gated, with_enrolment, with_due, with_cancel, without_gated, after_queued, after_enrolment, after_due, after_cancel};
+ghost use Rattle.std.specs.{Prelude.{◌≡◌, ◌<◌, ◌≤◌, false, length, max, if◌then◌else◌, OnOk, OnErr}, VecDeque.deque_capacity};
+ghost use Rattle.exec_lists.specs.Lists.{no_lists, is_among, has_first, first_of, withdrawn, with_queued, with_gated, with_enrolment, with_due, with_cancel, without_gated, after_queued, after_enrolment, after_due, after_cancel};
 
 use crate::name_list::NameList;
 use exec_waiters::waiter_id::WaiterId;

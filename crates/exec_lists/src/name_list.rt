@@ -5,9 +5,8 @@
 //! first: a name at either end that is alone in its slot leaves without a look at the others, and any other by a pass
 //! over them. Of a slot without a count nothing is known.
 
-ghost use Rattle.std.specs.Prelude.{◌≡◌, ◌<◌, ◌≤◌, [], ◌∷◌, ◌++◌, true, false, length, OnOk, IsSome, IfSome};
-ghost use Rattle.std.specs.VecDeque.{deque_capacity};
-ghost use Rattle.exec_lists.specs.{Lists.{without, is_among, is_same, first_of, rest_of, has_first}, NameList.{AreCounted, are_within, in_slot}};
+ghost use Rattle.std.specs.{Prelude.{◌≡◌, ◌<◌, ◌≤◌, [], ◌∷◌, ◌++◌, true, false, length, OnOk, IsSome, IfSome}, VecDeque.deque_capacity};
+ghost use Rattle.exec_lists.specs.Lists.{without, is_among, is_same, first_of, rest_of, has_first, AreCounted, are_within, in_slot};
 
 use exec_waiters::waiter_id::WaiterId;
 use std::alloc::{AllocError, Global};
@@ -69,10 +68,7 @@ impl NameList {
         ensures { result ≡ false → is_among id self.now.names.items ≡ false }
     {
         let slot = id.0.index as usize;
-        if slot < self.counts.len() {
-            return self.counts[slot] > 0;
-        }
-        true
+        slot >= self.counts.len() || self.counts[slot] > 0
     }
 
     /// Whether one name at most has the slot of this one, by its count.
@@ -80,10 +76,7 @@ impl NameList {
         ensures { result ≡ true → in_slot id.0.index self.now.names.items ≤ 1 }
     {
         let slot = id.0.index as usize;
-        if slot < self.counts.len() {
-            return self.counts[slot] <= 1;
-        }
-        false
+        slot < self.counts.len() && self.counts[slot] <= 1
     }
 
     /// Whether this name is there.

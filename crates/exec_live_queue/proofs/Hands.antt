@@ -1,7 +1,6 @@
 -- The slots of a run of labels: taken out all at once, and given back all at once.
-use Rattle.exec_live_queue.proofs.Words.{◌≡◌, ◌≢◌, ℕ, zero, suc, ◌+◌, ◌-◌, ◌%◌, ◌<◌, ◌≤◌, List, [], ◌∷◌, ◌++◌, length, map, set, replicate, sym, refl, ap, ap₂, ◌∙◌, subst, mod-lt, length-set, append_assoc, arith, add-mod_right, none, some, dite, ℕ_discrete, get_elem?, Option, Some, None, Valid, carried_after, homes_after, rest, set_here, set_else, one_turn, Homes, HomeAt, hand, give_all, values_of}
+use Rattle.exec_live_queue.{proofs.Words.{◌≡◌, ◌≢◌, ℕ, zero, suc, ◌+◌, ◌-◌, ◌%◌, ◌<◌, ◌≤◌, List, [], ◌∷◌, ◌++◌, length, map, set, replicate, sym, refl, ap, ap₂, ◌∙◌, subst, mod-lt, length-set, append_assoc, arith, add-mod_right, none, some, dite, ℕ_discrete, get_elem?, Option, Some, None, Valid, carried_after, homes_after, rest, set_here, set_else, one_turn, Homes, HomeAt, hand, give_all, values_of}, specs.Plays.take_all}
 use Rattle.std.proofs.Common.{arith}
-use Rattle.exec_live_queue.specs.Plays.{take_all}
 
 -- two labels less than 256 apart have slots of their own
 pub apart : (a b : ℕ) → a < b → b < a + 256 → a % 256 ≢ b % 256

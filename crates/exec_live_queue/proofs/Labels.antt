@@ -1,7 +1,6 @@
 -- Runs of labels, and what they weigh; and lists.
 use Rattle.exec_live_queue.proofs.Words.{◌≡◌, ℕ, zero, suc, ◌+◌, ◌-◌, ◌<◌, ◌≤◌, ◌⊎◌, List, [], ◌∷◌, ◌++◌, length, take, sym, refl, ap, ◌∙◌, subst, inl, inr, ⊎_elim, drop-drop, length-drop, length-append, arith, drop-take, drop_at, drop-append-le, some, some-injective, some-ne-none, get_elem?, sum_by, sum_by-cons, labels}
-use Rattle.std.proofs.Common.{arith}
-use Rattle.std.proofs.{Common.drop, lemmas.List.{take_all, length-take-le}}
+use Rattle.std.proofs.{Common.{arith, drop}, lemmas.List.{take_all, length-take-le}}
 
 -- the labels of two runs, one behind the other
 pub weigh_runs : (w : ℕ → ℕ) (a n m : ℕ) → sum_by w (labels a (n + m)) ≡ sum_by w (labels a n) + sum_by w (labels (a + n) m)

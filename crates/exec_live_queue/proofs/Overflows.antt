@@ -1,7 +1,6 @@
 -- A full queue flows over, and shows again what it kept: both keep the rule.
-use Rattle.exec_live_queue.proofs.{Words.{◌≡◌, ℕ, ◌+◌, ◌-◌, ◌/◌, ◌%◌, ◌^◌, ◌<◌, ◌≤◌, eqb, List, [], ◌++◌, map, length, take, sym, refl, ap, ◌∙◌, subst, le_refl, length-append, length-drop, arith, add-mod_right, none, some, some-injective, get_elem?, length-map, either, Option, Some, sum_by, sum_by-append, keeps, step, homes_after, Allows, at_longer, overflowed, Own, View, Owns, head_word, Outside, words_of, queue_at, labels, HomeAt, LiveQueue, Sat, hand, whole, overflowed_view, Overflowed, flows_over, missed, restored_view, restores}, Hands.{AllHome, take_before, take_valid, take_carried, take_length, hand_turn, all_full}, Labels.{weigh_runs, at_drop, at_take, at_within, at_appended, window_of_end, window_length}, Rebuild.{Puts, exchanges, rebuilt, owner_steps}, Looks.{count_of_word, gap_of_word, lays_here}}
+use Rattle.exec_live_queue.{proofs.{Words.{◌≡◌, ℕ, ◌+◌, ◌-◌, ◌/◌, ◌%◌, ◌^◌, ◌<◌, ◌≤◌, eqb, List, [], ◌++◌, map, length, take, sym, refl, ap, ◌∙◌, subst, le_refl, length-append, length-drop, arith, add-mod_right, none, some, some-injective, get_elem?, length-map, either, Option, Some, sum_by, sum_by-append, keeps, step, homes_after, Allows, at_longer, overflowed, Own, View, Owns, head_word, Outside, words_of, queue_at, labels, HomeAt, LiveQueue, Sat, hand, whole, overflowed_view, Overflowed, flows_over, missed, restored_view, restores}, Hands.{AllHome, take_before, take_valid, take_carried, take_length, hand_turn, all_full}, Labels.{weigh_runs, at_drop, at_take, at_within, at_appended, window_of_end, window_length}, Rebuild.{Puts, exchanges, rebuilt, owner_steps}, Looks.{count_of_word, gap_of_word, lays_here}}, specs.Plays.take_all}
 use Rattle.std.proofs.{Common.{drop, append-nil}, lemmas.List.length-take-le}
-use Rattle.exec_live_queue.specs.Plays.{take_all}
 
 -- what left and what was relabelled are the 256 labels below the new front
 overflowed_weight : (w : ℕ → ℕ) (start real tail : ℕ) (handed kept : List ℕ) → start ≤ real → real + 256 ≡ tail

@@ -1,7 +1,6 @@
 -- What an owner's calls do to its view, step after step.
 use Rattle.exec_live_queue.proofs.{Words.{◌≡◌, ℕ, ◌+◌, ◌-◌, ◌/◌, ◌%◌, ◌^◌, ◌<◌, ◌≤◌, List, [], ◌∷◌, ◌++◌, length, take, map, replicate, sym, refl, ap, ◌∙◌, subst, arith, none, Option, Some, None, step, Own, Owns, Sat, room, hand, laid, Found, values_of, published_view, Overflowed, restored_view, whole, AtRest, looked, HasLooked, HasPublished, HasOverflowed, fully, AtHand, Fills, rest, length-append, length-drop}, Hands.values_behind, Overflows.whole_length}
-use Rattle.std.proofs.Common.{arith}
-use Rattle.std.proofs.{Common.{min, drop, append-nil}, lemmas.{List.length-take-le}}
+use Rattle.std.proofs.{Common.{arith, min, drop, append-nil}, lemmas.List.length-take-le}
 use Rattle.exec_words.specs.Head.{room_at}
 
 module _ {T : Type 0} where

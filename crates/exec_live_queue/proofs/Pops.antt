@@ -1,6 +1,5 @@
 -- The owner's pops keep the rule: by an exchange, and of a lone value by a store.
-use Rattle.exec_live_queue.proofs.{Words.{◌≡◌, ℕ, ◌+◌, ◌-◌, ◌/◌, ◌%◌, ◌<◌, ◌≤◌, ◌⊎◌, eqb, List, [], ◌∷◌, ◌++◌, sym, refl, ap, ◌∙◌, subst, le_refl, arith, none, some, get_elem?, either, Option, Some, sum_by, sum_by_push, State, step, homes_after, Allows, add-mod_right, popped, View, Owns, head_word, Outside, words_of, queue_at, labels, Kept, LiveQueue, Sat, after_pop, popped_view, Popped, pops, pops_last, missed}, Hands.{take_behind, take_length}, Labels.{weigh_runs, weigh_one, window}, Rebuild.{Puts, exchanges, rebuilt, owner_steps}, Looks.{count_of_word, gap_of_word, lays_here}}
-use Rattle.exec_live_queue.specs.Plays.{take_all}
+use Rattle.exec_live_queue.{proofs.{Words.{◌≡◌, ℕ, ◌+◌, ◌-◌, ◌/◌, ◌%◌, ◌<◌, ◌≤◌, ◌⊎◌, eqb, List, [], ◌∷◌, ◌++◌, sym, refl, ap, ◌∙◌, subst, le_refl, arith, none, some, get_elem?, either, Option, Some, sum_by, sum_by_push, State, step, homes_after, Allows, add-mod_right, popped, View, Owns, head_word, Outside, words_of, queue_at, labels, Kept, LiveQueue, Sat, after_pop, popped_view, Popped, pops, pops_last, missed}, Hands.{take_behind, take_length}, Labels.{weigh_runs, weigh_one, window}, Rebuild.{Puts, exchanges, rebuilt, owner_steps}, Looks.{count_of_word, gap_of_word, lays_here}}, specs.Plays.take_all}
 
 -- one more label below the front
 popped_weight : (w : ℕ → ℕ) (start real : ℕ) (ls : List ℕ) → start ≤ real → sum_by w (ls ++ real ∷ []) + sum_by w (labels start (real - start)) ≡ sum_by w ls + sum_by w (labels start (real + 1 - start))

@@ -1,8 +1,7 @@
 -- The rule after a step of the owner: one lemma for all of them.
-use Rattle.exec_live_queue.proofs.{Labels.at_within, Words.{◌≡◌, ◌≢◌, ℕ, zero, suc, ◌+◌, ◌-◌, ◌<◌, ◌≤◌, List, [], ◌∷◌, length, set, sym, ap, ◌∙◌, subst, ⊎_elim, arith, some, some-injective, some-ne-none, get_elem?, Option, None, slice_index, sum_by, sum_by-cons, State, Act, Valid, carried_after, homes_after, Allows, either, eqb, at_set, set_here, set_else, Own, Theft, View, Stage, Owns, Claimed, head_word, filled, Outside, BesideClaim, InOrder, words_of, labels, Homes, HomeAt, FullAt, weight_of, Knows, AsLogged, Kept, LiveQueue, Sat, Place}}
+use Rattle.exec_live_queue.{proofs.{Labels.at_within, Words.{◌≡◌, ◌≢◌, ℕ, zero, suc, ◌+◌, ◌-◌, ◌<◌, ◌≤◌, List, [], ◌∷◌, length, set, sym, ap, ◌∙◌, subst, ⊎_elim, arith, some, some-injective, some-ne-none, get_elem?, Option, None, slice_index, sum_by, sum_by-cons, State, Act, Valid, carried_after, homes_after, Allows, either, eqb, at_set, set_here, set_else, Own, Theft, View, Stage, Owns, Claimed, head_word, filled, Outside, BesideClaim, InOrder, words_of, labels, Homes, HomeAt, FullAt, weight_of, Knows, AsLogged, Kept, LiveQueue, Sat, Place}}, specs.Seats.IsAt}
 use Rattle.std.proofs.Common.{arith}
 use Rattle.atomic_table.specs.declared.shared.Shared.{Shared}
-use Rattle.exec_live_queue.specs.Seats.{IsAt}
 
 -- one item of a sum is another
 pub sum_set : {X : Type 0} (f : X → ℕ) (xs : List X) (i : ℕ) (x y : X) → get_elem? xs i ≡ some x → sum_by f (set xs i y) + f x ≡ sum_by f xs + f y

@@ -1,11 +1,8 @@
 -- How the seat of an owner stands between its calls.
-use Rattle.exec_live_queue.proofs.{Words.{◌≡◌, ℕ, ◌+◌, ◌-◌, ◌%◌, ◌^◌, ◌<◌, ◌≤◌, List, [], ◌∷◌, length, sym, refl, ap, ◌∙◌, arith, Option, Some, None, slice_get, push_answer, handed_out, View, Sat, returned, values_of, Place, SameSeat, HasLooked, HandsOut, Stands}, Hands.values_before, Moves.{handed_back, handed_one, hands_front, one_front}, Owners.own_tail}
-use Rattle.std.proofs.Common.{arith}
-use Rattle.std.specs.Prelude.{drop}
+use Rattle.exec_live_queue.{proofs.{Words.{◌≡◌, ℕ, ◌+◌, ◌-◌, ◌%◌, ◌^◌, ◌<◌, ◌≤◌, List, [], ◌∷◌, length, sym, refl, ap, ◌∙◌, arith, Option, Some, None, slice_get, push_answer, handed_out, View, Sat, returned, values_of, Place, SameSeat, HasLooked, HandsOut, Stands}, Hands.values_before, Moves.{handed_back, handed_one, hands_front, one_front}, Owners.own_tail}, specs.{declared.owner.Owner.Owner as owner, Alone.Alone, Kinds.handed_by, Seats.{FrontHas, IsAt, Swapped, Tells}}}
+use Rattle.std.{proofs.Common.arith, specs.Prelude.drop}
 use Rattle.atomic_table.specs.declared.shared.Shared.{Shared}
 use Rattle.exec_words.specs.declared.head.Fit.{Fit}
-use Rattle.exec_live_queue.specs.declared.owner.Owner.TheVariants as owner
-use Rattle.exec_live_queue.specs.{Alone.Alone, Kinds.handed_by, Seats.{FrontHas, IsAt, Swapped, Tells}}
 
 module _ {T : Type 0} where
   parts : (xs : List T) → 0 < length xs → (x : T) × (ys : List T) × (xs ≡ x ∷ ys)

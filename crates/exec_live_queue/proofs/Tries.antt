@@ -1,6 +1,5 @@
 -- What a thief's tries do, one after another.
-use Rattle.exec_live_queue.proofs.{Words.{◌≡◌, HasKept, HasLooked, Theft}}
-use Rattle.exec_live_queue.specs.{Kinds.{Does}, declared.owner.Owner.Owner}
+use Rattle.exec_live_queue.{proofs.Words.{◌≡◌, HasKept, HasLooked, Theft}, specs.{Kinds.Does, declared.owner.Owner.Owner}}
 
 module _ {T : Type 0} where
   -- tries that took nothing

@@ -1,12 +1,10 @@
 -- What the calls of an owner and of a thief do, as their seats know it.
 use Rattle.std.specs.Prelude.{◌≡◌, ◌≢◌, ℕ, ◌+◌, ◌-◌, ◌^◌, ◌<◌, ◌≤◌, ◌⊎◌, List, [], ◌∷◌, ◌++◌, length, map, take, drop, replicate, Option, Some, None, Result, Ok, Err}
+use Rattle.atomic_table.specs.declared.shared.Shared.{Shared}
+use Rattle.exec_words.specs.declared.queue.{Steal.{Steal, Steal as steal}, PushAnswer.{PushAnswer, PushAnswer as answer}}
+use Rattle.exec_live_queue.specs.{declared.view.{Own.Own, Theft.Theft, View.View, Stage.TheVariants.Owns}, Live.labels, Numbers.half, Plays.{queue_at, Sat, hand}, Seats.{Place, IsAt, Rests}}
 use mathlib.Core.Option.{some}
 use lib.ListN.{get_elem?}
-use Rattle.atomic_table.specs.declared.shared.Shared.{Shared}
-use Rattle.exec_words.specs.declared.queue.{Steal.Steal, PushAnswer.PushAnswer}
-use Rattle.exec_words.specs.declared.queue.Steal.TheVariants as steal
-use Rattle.exec_live_queue.specs.{declared.view.{Own.Own, Theft.Theft, View.View, Stage.TheVariants.Owns}, Live.labels, Numbers.half, Plays.{queue_at, Sat, hand}, Seats.{Place, IsAt, Rests}}
-use Rattle.exec_words.specs.declared.queue.PushAnswer.TheVariants as answer
 
 module _ {T : Type 0} where
   -- what an owner knows once it has looked: as before, but for the head that it saw and for where slots were out

@@ -3,13 +3,9 @@
 -- An exclusive queue has no table: its first seat and then its owner hold it whole, and no thief has a seat at it.
 use Rattle.std.specs.Prelude.{◌≡◌, ◌≢◌, ℕ, ◌-◌, List, [], length, drop, Option, Some, None}
 use Rattle.atomic_table.specs.Seated.{TableId}
-use Rattle.exec_live_queue.specs.{declared.{view.{Stage.{Stage, TheVariants.Owns}, Own.Own, Theft.Theft}, owner.Owner.Owner, queue.{Queue.Queue, QueueSeat.QueueSeat}}, Alone.starting, Live.{opened, unread}, Plays.newcomer, Calls.{AfterInto, AfterPush, AfterSteal, HasLooked, fully}}
-use Rattle.exec_words.specs.{Queue.{Queue as Plain, room_of, fit_of, push_answer, after_push, newest}, Head.room_at, declared.queue.{PushAnswer.PushAnswer, Steal.Steal}}
+use Rattle.exec_live_queue.specs.{declared.{view.{Stage.{Stage, TheVariants.Owns}, Own.Own, Theft.Theft}, owner.Owner.{Owner, Owner as owner}, queue.{Queue.{Queue, Queue as queue}, QueueSeat.{QueueSeat, QueueSeat as seat}}}, Alone.starting, Live.{opened, unread}, Plays.newcomer, Calls.{AfterInto, AfterPush, AfterSteal, HasLooked, fully}}
+use Rattle.exec_words.specs.{Queue.{Queue as Plain, room_of, fit_of, push_answer, after_push, newest}, Head.room_at, declared.queue.{PushAnswer.PushAnswer, Steal.{Steal, Steal as steal}}}
 use Rattle.exec_words.specs.declared.queue.PushAnswer.TheVariants as answer
-use Rattle.exec_live_queue.specs.declared.owner.Owner.TheVariants as owner
-use Rattle.exec_live_queue.specs.declared.queue.Queue.TheVariants as queue
-use Rattle.exec_live_queue.specs.declared.queue.QueueSeat.TheVariants as seat
-use Rattle.exec_words.specs.declared.queue.Steal.TheVariants as steal
 
 module _ {T : Type 0} where
   -- what an overflow still has to hand out

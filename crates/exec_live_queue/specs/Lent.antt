@@ -1,11 +1,8 @@
 -- What a push answers, and how its owner stands after it: lent to what flows over, or not lent.
 use Rattle.std.specs.{Prelude.{◌≡◌, List, [], ⊤}, Borrow.{Fml, GName, MutBor, RattleType, follows_so}}
+use Rattle.exec_words.specs.declared.queue.PushAnswer.{PushAnswer, PushAnswer as answer}
+use Rattle.exec_live_queue.specs.{declared.{lent.{Overflow.Overflow, Push.{Push, Push as push}, Settled.{Settled, Settled as settled}}, owner.Owner.Owner}, contracts.owner.Owner.the_row, Kinds.{IsPushed, handed, handed_by}}
 use mathlib.Core.Option as maybe
-use Rattle.exec_words.specs.declared.queue.PushAnswer.{PushAnswer}
-use Rattle.exec_words.specs.declared.queue.PushAnswer.TheVariants as answer
-use Rattle.exec_live_queue.specs.{declared.{lent.{Overflow.Overflow, Push.Push, Settled.Settled}, owner.Owner.Owner}, contracts.owner.Owner.the_row, Kinds.{IsPushed, handed, handed_by}}
-use Rattle.exec_live_queue.specs.declared.lent.Push.TheVariants as push
-use Rattle.exec_live_queue.specs.declared.lent.Settled.TheVariants as settled
 
 module _ {T : Type 0} where
   -- as a plain queue answers it

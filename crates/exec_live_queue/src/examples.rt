@@ -2,9 +2,7 @@
 
 ghost use Rattle.std.specs.Prelude.{◌≡◌, ◌≢◌, [], ◌∷◌};
 ghost use Rattle.exec_live_queue.specs.{Calls.{AfterPush, AfterSteal, MayTakeNothing, WasEmpty, fully, handed_after}, Examples.{numbers, holding, five, full, crowded, spent, flowing_over, thief, robber}, Live.{labels, unread}, Numbers.{head_word, filled, half, Outside, BesideClaim}, Plays.{queue_at, room}};
-ghost use Rattle.exec_words.specs.declared.queue.PushAnswer.TheVariants as answer;
-ghost use Rattle.exec_words.specs.declared.queue.Steal.TheVariants as steal;
-ghost use Rattle.exec_words.specs.Queue.{popped, claimed, released};
+ghost use Rattle.exec_words.specs.{declared.queue.{PushAnswer.PushAnswer as answer, Steal.Steal as steal}, Queue.{popped, claimed, released}};
 
 /// The head as a word, labels, free places, and how many values a claim takes.
 #[tactic(auto, unfolding(crate::specs::Live::labels))]

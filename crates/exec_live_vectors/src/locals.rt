@@ -1,7 +1,6 @@
 //! A live run queue with the seat of a thief and its owner.
 
-ghost use Rattle.std.specs.Prelude.{◌≡◌, []};
-ghost use Rattle.std.specs.Option.{ForSome};
+ghost use Rattle.std.specs.{Prelude.{◌≡◌, []}, Option.ForSome};
 ghost use Rattle.exec_live_queue.specs.{Kinds.{IsThief, handed}, Lent.{left_of, lender}};
 
 use crate::fault::Fault;

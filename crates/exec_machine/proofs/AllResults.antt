@@ -1,16 +1,7 @@
 -- How far a request has come stands for all results that the run shows of it: each line keeps that.
-use Rattle.std.proofs.Common.{◌≡◌, ℕ, ◌<◌, ◌≤◌, Bool, true, false, ◌==◌, if◌then◌else◌, List, [], ◌∷◌, ◌++◌, Option, Some, None, length, refl, sym, ◌∙◌, ap, subst, arith, inl, inr, get_or, set}
-use Rattle.std.proofs.lemmas.Bool.{true≢false, cases_eq, cases_lt, eq-eqb, ne_eqb}
-use Rattle.std.proofs.lemmas.Grind.{get_or-set_at}
-use Rattle.std.proofs.lemmas.List.{append-nil, append_assoc, length-set, length_push, get_or-set_other, get_or_append_left, get_or_past}
-use Rattle.exec_outcomes.specs.{declared.outcome.{Judged.Judged, Kind.Kind, OpResult.OpResult, Outcome.Outcome}, Accounts.Account, Outcomes.{HasCome, outcome_next, outcome_of}}
-use Rattle.exec_outcomes.proofs.Runs.{next, goes_on}
-use Rattle.exec_machine.specs.{declared.{config.{Configuration.Configuration, ScriptWord.ScriptWord}, step.Action.Action, event.{Event.Event, StepResult.{StepResult, TheVariants.{Refused, Did}}, Line.Line}, state.{RequestPhase.RequestPhase, Operation.Operation, Request.Request}}, Choice.Choice, World.{World, Own, Common, own_of, request_of, no_request}, Tests.{is_resolved, is_in_flight, is_landed_with}, Words.{next_word, polled_task}, Requests.{asked_of, cursor_of, judged_of, operation_asked, operation_or_none, asked_now, with_seen, new_request, resolved_if, reaped, outcome_given, outcome_shown, account_of_open}, Allowed.Allowed, Run.{Follows, RunsBy, after_event, after_line, world_after}, Progress.{Plan, begin}, Results.{result_in, results_of, reaps}}
-use Rattle.exec_machine.specs.declared.step.Action.TheVariants as action
-use Rattle.exec_machine.specs.declared.event.Event.TheVariants as event
-use Rattle.exec_machine.specs.declared.state.RequestPhase.TheVariants as phase
-use Rattle.exec_machine.proofs.{SameIs.same_end_is, Onward.{Hints, AllOnward, by_event, by_other}, Lasting.landed_open}
-use Rattle.std.proofs.lemmas.List.{get_or_push}
+use Rattle.std.proofs.{Common.{◌≡◌, ℕ, ◌<◌, ◌≤◌, Bool, true, false, ◌==◌, if◌then◌else◌, List, [], ◌∷◌, ◌++◌, Option, Some, None, length, refl, sym, ◌∙◌, ap, subst, arith, inl, inr, get_or, set}, lemmas.{Bool.{true≢false, cases_eq, cases_lt, eq-eqb, ne_eqb}, Grind.get_or-set_at, List.{append-nil, append_assoc, length-set, length_push, get_or-set_other, get_or_append_left, get_or_past, get_or_push}}}
+use Rattle.exec_outcomes.{specs.{declared.outcome.{Judged.Judged, Kind.Kind, OpResult.OpResult, Outcome.Outcome}, Accounts.Account, Outcomes.{HasCome, outcome_next, outcome_of}}, proofs.Runs.{next, goes_on}}
+use Rattle.exec_machine.{specs.{declared.{config.{Configuration.Configuration, ScriptWord.ScriptWord}, step.Action.{Action, Action as action}, event.{Event.{Event, Event as event}, StepResult.{StepResult, TheVariants.{Refused, Did}}, Line.Line}, state.{RequestPhase.{RequestPhase, RequestPhase as phase}, Operation.Operation, Request.Request}}, Choice.Choice, World.{World, Own, Common, own_of, request_of, no_request}, Tests.{is_resolved, is_in_flight, is_landed_with}, Words.{next_word, polled_task}, Requests.{asked_of, cursor_of, judged_of, operation_asked, operation_or_none, asked_now, with_seen, new_request, resolved_if, reaped, outcome_given, outcome_shown, account_of_open}, Allowed.Allowed, Run.{Follows, RunsBy, after_event, after_line, world_after}, Progress.{Plan, begin}, Results.{result_in, results_of, reaps}}, proofs.{SameIs.same_end_is, Onward.{Hints, AllOnward, by_event, by_other}, Lasting.landed_open}}
 
 abbrev pub IsOpen : List Request → ℕ → Type 0
 IsOpen requests r = is_resolved (get_or requests r no_request).phase ≡ false

@@ -1,8 +1,6 @@
 -- An event of one worker leaves the others' own parts.
-use Rattle.std.proofs.Common.{◌≡◌, ℕ, ◌<◌, List, ◌++◌, length, sym, ◌∙◌, arith, get_or, set}
-use Rattle.std.proofs.lemmas.List.{length-set, get_or-set_other, get_or_append_left}
-use Rattle.exec_machine.specs.{declared.{config.Configuration.Configuration, step.Action.Action, event.{Event.Event, StepResult.{StepResult}}}, Choice.Choice, World.{World, Own, own_of, no_own}, After.{after, own_after, made_by}, Run.after_line}
-use Rattle.exec_machine.specs.declared.step.Action.TheVariants as action
+use Rattle.std.proofs.{Common.{◌≡◌, ℕ, ◌<◌, List, ◌++◌, length, sym, ◌∙◌, arith, get_or, set}, lemmas.List.{length-set, get_or-set_other, get_or_append_left}}
+use Rattle.exec_machine.specs.{declared.{config.Configuration.Configuration, step.Action.{Action, Action as action}, event.{Event.Event, StepResult.StepResult}}, Choice.Choice, World.{World, Own, own_of, no_own}, After.{after, own_after, made_by}, Run.after_line}
 
 other_stays : (xs more : List Own) (i j : ℕ) (x : Own) → (i ≡ j → ⊥) → j < length xs → get_or (set xs i x ++ more) j no_own ≡ get_or xs j no_own
 other_stays xs more i j x apart there =

@@ -1,7 +1,5 @@
 -- The tests that compute say the same as the types.
-use Rattle.std.proofs.Common.{◌≡◌, Bool, true, ◌&&◌, List, [], ◌∷◌, refl, sym}
-use Rattle.std.proofs.lemmas.Bool.{true≢false, and_parts}
-use Rattle.std.specs.List.{list_all}
+use Rattle.std.{proofs.{Common.{◌≡◌, Bool, true, ◌&&◌, List, [], ◌∷◌, refl, sym}, lemmas.Bool.{true≢false, and_parts}}, specs.List.list_all}
 use Rattle.exec_machine.specs.{declared.{config.Configuration.Configuration, event.Line.Line}, Choice.Choice, World.World, Tests.AllTrue, Run.{RunsBy, is_run, tests_of_line, after_line}}
 
 pub both_true : {x y : Bool} → x ≡ true → y ≡ true → (x && y) ≡ true

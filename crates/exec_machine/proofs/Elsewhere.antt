@@ -1,7 +1,5 @@
 -- What is due at one worker, where another's requests and sleepers change.
-use Rattle.std.proofs.Common.{◌≡◌, ℕ, zero, suc, Bool, true, false, not, ◌&&◌, ◌||◌, ◌==◌, if◌then◌else◌, List, [], ◌∷◌, ◌++◌, Option, Some, refl, ap, inl, inr, ◌⊎◌, get_or, set, nat_le, arith}
-use Rattle.std.proofs.lemmas.Bool.{cases_eq, cases_Bool}
-use Rattle.std.proofs.lemmas.List.{get_or-set_other}
+use Rattle.std.proofs.{Common.{◌≡◌, ℕ, zero, suc, Bool, true, false, not, ◌&&◌, ◌||◌, ◌==◌, if◌then◌else◌, List, [], ◌∷◌, ◌++◌, Option, Some, refl, ap, inl, inr, ◌⊎◌, get_or, set, nat_le, arith}, lemmas.{Bool.{cases_eq, cases_Bool}, List.get_or-set_other}}
 use Rattle.exec_machine.specs.{declared.{config.Configuration.Configuration, state.{Request.Request, Sleeper.Sleeper}}, World.{Own, no_request, no_sleeper}, Tests.{IsOther, all_numbered, is_asleep}, Deadlines.{earlier, first_timer, first_until, is_none_earlier, is_due, is_told_before, is_told_after, is_first_due}}
 
 -- TIMERS

@@ -1,13 +1,7 @@
 -- What is over stays so, along whole runs.
-use Rattle.std.proofs.Common.{◌≡◌, ℕ, zero, suc, ◌<◌, ◌≤◌, true, false, List, [], ◌∷◌, ◌++◌, Option, Some, None, length, refl, sym, ◌∙◌, ap, arith, get_or, set}
-use Rattle.std.proofs.lemmas.Bool.{true≢false}
-use Rattle.std.proofs.lemmas.List.{length-set, length_push, get_or_append_left}
+use Rattle.std.proofs.{Common.{◌≡◌, ℕ, zero, suc, ◌<◌, ◌≤◌, true, false, List, [], ◌∷◌, ◌++◌, Option, Some, None, length, refl, sym, ◌∙◌, ap, arith, get_or, set}, lemmas.{Bool.true≢false, List.{length-set, length_push, get_or_append_left}}}
 use Rattle.exec_outcomes.specs.declared.outcome.{OpResult.OpResult, Outcome.Outcome}
-use Rattle.exec_machine.specs.{declared.{config.Configuration.Configuration, step.Action.Action, event.{Event.Event, StepResult.{StepResult, TheVariants.{Refused, Did}}, Line.Line}, state.{RequestPhase.RequestPhase, Request.Request}}, Choice.Choice, World.{World, own_of, request_of, no_request}, Tests.{is_landed_with, is_resolved}, Requests.{reaped, new_request, resolved_if, with_seen, asked_now}, Run.{Follows, RunsBy, after_event, after_line, world_after}}
-use Rattle.exec_machine.specs.declared.step.Action.TheVariants as action
-use Rattle.exec_machine.specs.declared.event.Event.TheVariants as event
-use Rattle.exec_machine.specs.declared.state.RequestPhase.TheVariants as phase
-use Rattle.exec_machine.proofs.Onward.{Lasts, AllOnward, by_event, by_other, none_changed}
+use Rattle.exec_machine.{specs.{declared.{config.Configuration.Configuration, step.Action.{Action, Action as action}, event.{Event.{Event, Event as event}, StepResult.{StepResult, TheVariants.{Refused, Did}}, Line.Line}, state.{RequestPhase.{RequestPhase, RequestPhase as phase}, Request.Request}}, Choice.Choice, World.{World, own_of, request_of, no_request}, Tests.{is_landed_with, is_resolved}, Requests.{reaped, new_request, resolved_if, with_seen, asked_now}, Run.{Follows, RunsBy, after_event, after_line, world_after}}, proofs.Onward.{Lasts, AllOnward, by_event, by_other, none_changed}}
 
 pub record Lasting (xs ys : List Request) : Type 0 where
   pub grows : length xs ≤ length ys

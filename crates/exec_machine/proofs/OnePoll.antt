@@ -1,13 +1,8 @@
 -- A task is polled by at most one worker: who polls a task is told by the task's phase.
-use Rattle.std.proofs.Common.{◌≡◌, ℕ, zero, suc, Bool, true, false, ◌&&◌, ◌==◌, if◌then◌else◌, List, [], ◌∷◌, ◌++◌, Option, Some, None, refl, sym, ◌∙◌, ap, subst, arith, inl, inr, get_or, set}
-use Rattle.std.proofs.lemmas.Bool.{true≢false, cases_Bool, eq-eqb}
-use Rattle.exec_machine.{specs.{declared.{config.Configuration.Configuration, step.Action.Action, event.{Event.Event, StepResult.{StepResult, TheVariants.{Refused, Did}}, Line.Line}, state.{Waiting.Waiting, MailMessage.MailMessage, Operation.Operation}}, Choice.{Choice, Payer, Choice.{Plain, Passes, Pays, Posts}}, World.{World, Own, Task, Common, own_of, task_of, request_of, no_own, no_task}, Tests.{is_ready, waits_for_nothing}, Words.{next_word, moved_on, asks_yield}, Same.is_none, Requests.{asked_now, judged_of, own_after_admit, own_after_drop, after_reap}, Deadlines.sampled_now, Tasks.{woken, pended_phase, begun, own_after_drops, own_after_waking_up, own_after_over, after_pend, after_word, owes, after_taking, after_waking_word, after_payment, after_wake, wake}, Mail.{after_sending, after_post, after_send, awaiting, after_apply, own_after_letter, own_after_apply, is_root_message, is_left_out}, Closing.{after_turn, own_after_turn, with_cleared, own_after_clear, after_clear, ends_by_clear}, Allowed.Allowed, After.{polled, own_after, common_after, made_by}, Callers.{after_spawn_by_call, after_wake_by_call, after_going_on}, Run.{Follows, RunsBy, after_event, after_line, world_after, first_owns}, Progress.{Plan, begin}}, proofs.Polled.{is_polled_by, one_poller, woken_polled, ready_unpolled, cleared_unpolled, none_some, some_same}}
-use Rattle.exec_machine.specs.declared.step.Action.TheVariants as action
-use Rattle.exec_machine.specs.declared.event.Event.TheVariants as event
-use Rattle.exec_machine.specs.declared.state.TaskPhase.TheVariants as task
-use Rattle.exec_machine.specs.declared.state.MailMessage.TheVariants as message
+use Rattle.std.proofs.{Common.{◌≡◌, ℕ, zero, suc, Bool, true, false, ◌&&◌, ◌==◌, if◌then◌else◌, List, [], ◌∷◌, ◌++◌, Option, Some, None, refl, sym, ◌∙◌, ap, subst, arith, inl, inr, get_or, set}, lemmas.Bool.{true≢false, cases_Bool, eq-eqb}}
+use Rattle.exec_machine.{specs.{declared.{config.Configuration.Configuration, step.Action.{Action, Action as action}, event.{Event.{Event, Event as event}, StepResult.{StepResult, TheVariants.{Refused, Did}}, Line.Line}, state.{Waiting.Waiting, MailMessage.MailMessage, Operation.Operation, TaskPhase.TaskPhase as task}}, Choice.{Choice, Payer, Choice.{Plain, Passes, Pays, Posts}}, World.{World, Own, Task, Common, own_of, task_of, request_of, no_own, no_task}, Tests.{is_ready, waits_for_nothing}, Words.{next_word, moved_on, asks_yield}, Same.is_none, Requests.{asked_now, judged_of, own_after_admit, own_after_drop, after_reap}, Deadlines.sampled_now, Tasks.{woken, pended_phase, begun, own_after_drops, own_after_waking_up, own_after_over, after_pend, after_word, owes, after_taking, after_waking_word, after_payment, after_wake, wake}, Mail.{after_sending, after_post, after_send, awaiting, after_apply, own_after_letter, own_after_apply, is_root_message, is_left_out}, Closing.{after_turn, own_after_turn, with_cleared, own_after_clear, after_clear, ends_by_clear}, Allowed.Allowed, After.{polled, own_after, common_after, made_by}, Callers.{after_spawn_by_call, after_wake_by_call, after_going_on}, Run.{Follows, RunsBy, after_event, after_line, world_after, first_owns}, Progress.{Plan, begin}}, proofs.{Polled.{is_polled_by, one_poller, woken_polled, ready_unpolled, cleared_unpolled, none_some, some_same}, SameIs.is_number_is}}
 use Rattle.exec_outcomes.specs.{declared.outcome.{OpResult.OpResult, Outcome.Outcome}, Outcomes.refuses_hint, Accounts.is_durable}
-use Rattle.exec_machine.proofs.SameIs.{is_number_is}
+use Rattle.exec_machine.specs.declared.state.MailMessage.TheVariants as message
 
 -- TASKS
 

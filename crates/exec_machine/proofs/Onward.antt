@@ -1,15 +1,9 @@
 -- What an event leaves of each request: one that is over stays so with its outcome, a released one stays released, and
 -- none but an admission and a judged result changes what a request asks for and how far it has come.
-use Rattle.std.proofs.Common.{◌≡◌, ℕ, zero, suc, ◌+◌, Bool, true, false, ◌&&◌, ◌==◌, List, [], ◌∷◌, Option, Some, None, length, map, refl, sym, ◌∙◌, subst, inl, inr, get_or, set, unwrap_or, arith}
-use Rattle.std.proofs.lemmas.Bool.{true≢false, cases_Bool, and_parts}
-use Rattle.std.proofs.lemmas.List.{length-set, length-map}
+use Rattle.std.proofs.{Common.{◌≡◌, ℕ, zero, suc, ◌+◌, Bool, true, false, ◌&&◌, ◌==◌, List, [], ◌∷◌, Option, Some, None, length, map, refl, sym, ◌∙◌, subst, inl, inr, get_or, set, unwrap_or, arith}, lemmas.{Bool.{true≢false, cases_Bool, and_parts}, List.{length-set, length-map}}}
 use Rattle.exec_outcomes.specs.{declared.outcome.{OpResult.OpResult, Outcome.Outcome}, Lawful.{window_of, is_lawful}}
-use Rattle.exec_machine.specs.{declared.{config.Configuration.Configuration, step.Action.Action, event.{Event.Event, StepResult.TheVariants.Did}, state.{MailMessage.MailMessage, Forwarding.TheVariants.{Sent, Applied}, RequestPhase.RequestPhase, Request.Request}}, Choice.{Choice, Payer, Choice.{Plain, Passes, Pays, Posts}, Payer.{ByRequest, BySleeper, ByAct, ByCall, ByStop}}, World.{World, Own, Common, task_of, request_of, no_request}, Tests.{is_gated, is_queued, is_flying, is_resolved, is_in_flight}, Requests.{asked_of, cursor_of, dropped, granted, staged, flown}, Deadlines.{fires_at, enrolled, expired, outcome_at_expiry}, Tasks.{requests_after_drops, after_word, after_wait, after_payment, after_wake, after_pend}, Mail.{after_sending, after_post, after_send, after_apply, is_root_message, is_left_out}, Closing.{after_turn, after_clear, with_cleared, ends_by_clear}, Allowed.Allowed, After.{common_after, polled}, Callers.{after_spawn_by_call, after_wake_by_call, after_going_on}, Run.{Follows, after_event}, Same.same_end}
-use Rattle.exec_machine.specs.declared.step.Action.TheVariants as action
-use Rattle.exec_machine.specs.declared.event.Event.TheVariants as event
-use Rattle.exec_machine.specs.declared.state.MailMessage.TheVariants as message
+use Rattle.exec_machine.{specs.{declared.{config.Configuration.Configuration, step.Action.{Action, Action as action}, event.{Event.{Event, Event as event}, StepResult.TheVariants.Did}, state.{MailMessage.{MailMessage, MailMessage as message}, Forwarding.TheVariants.{Sent, Applied}, RequestPhase.RequestPhase, Request.Request}}, Choice.{Choice, Payer, Choice.{Plain, Passes, Pays, Posts}, Payer.{ByRequest, BySleeper, ByAct, ByCall, ByStop}}, World.{World, Own, Common, task_of, request_of, no_request}, Tests.{is_gated, is_queued, is_flying, is_resolved, is_in_flight}, Requests.{asked_of, cursor_of, dropped, granted, staged, flown}, Deadlines.{fires_at, enrolled, expired, outcome_at_expiry}, Tasks.{requests_after_drops, after_word, after_wait, after_payment, after_wake, after_pend}, Mail.{after_sending, after_post, after_send, after_apply, is_root_message, is_left_out}, Closing.{after_turn, after_clear, with_cleared, ends_by_clear}, Allowed.Allowed, After.{common_after, polled}, Callers.{after_spawn_by_call, after_wake_by_call, after_going_on}, Run.{Follows, after_event}, Same.same_end}, proofs.SameIs.told_only_where}
 use Rattle.exec_machine.specs.declared.state.RequestPhase.TheVariants as phase
-use Rattle.exec_machine.proofs.SameIs.{told_only_where}
 
 -- ONE REQUEST
 

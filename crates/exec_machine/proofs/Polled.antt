@@ -1,8 +1,6 @@
 -- Who polls a task, by its phase.
-use Rattle.std.proofs.Common.{◌≡◌, ℕ, Bool, true, false, ◌==◌, Option, Some, None, refl, sym, ap, arith}
-use Rattle.std.proofs.lemmas.Bool.{true≢false}
-use Rattle.exec_machine.specs.{declared.state.TaskPhase.TaskPhase, Tests.is_ready, Tasks.woken_phase, Closing.ends_by_clear}
-use Rattle.exec_machine.specs.declared.state.TaskPhase.TheVariants as task
+use Rattle.std.proofs.{Common.{◌≡◌, ℕ, Bool, true, false, ◌==◌, Option, Some, None, refl, sym, ap, arith}, lemmas.Bool.true≢false}
+use Rattle.exec_machine.specs.{declared.state.TaskPhase.{TaskPhase, TaskPhase as task}, Tests.is_ready, Tasks.woken_phase, Closing.ends_by_clear}
 
 -- PHASES
 

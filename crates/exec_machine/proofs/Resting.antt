@@ -1,9 +1,6 @@
 -- That no worker sleeps on work can be computed.
-use Rattle.std.proofs.Common.{◌≡◌, ℕ, zero, suc, ◌+◌, Bool, true, false, not, ◌&&◌, ◌||◌, List, [], ◌∷◌, refl, sym, subst, arith, get_or}
-use Rattle.std.specs.List.{list_all}
-use Rattle.std.proofs.lemmas.Bool.{true≢false, and_parts, not-true, not_from_false}
-use Rattle.exec_machine.specs.{declared.{config.Configuration.Configuration, event.Line.Line, state.MailMessage.MailMessage}, Choice.Choice, World.{World, no_own, no_seat, no_task, no_request, no_sleeper}, Tests.{all_numbered, is_empty}, Run.after_line, Progress.{all_asleep, is_task_unfinished, is_request_unfinished, is_sleeper_unfinished, is_cancel_untold, has_to_close, sleeps_for_nothing, NothingUnfinished, IsRightlyAsleep, is_nothing_unfinished, is_rightly_asleep, RightlyAsleepBy, is_always_rightly_asleep}}
-use Rattle.exec_machine.proofs.Computing.{both_true}
+use Rattle.std.{proofs.{Common.{◌≡◌, ℕ, zero, suc, ◌+◌, Bool, true, false, not, ◌&&◌, ◌||◌, List, [], ◌∷◌, refl, sym, subst, arith, get_or}, lemmas.Bool.{true≢false, and_parts, not-true, not_from_false}}, specs.List.list_all}
+use Rattle.exec_machine.{specs.{declared.{config.Configuration.Configuration, event.Line.Line, state.MailMessage.MailMessage}, Choice.Choice, World.{World, no_own, no_seat, no_task, no_request, no_sleeper}, Tests.{all_numbered, is_empty}, Run.after_line, Progress.{all_asleep, is_task_unfinished, is_request_unfinished, is_sleeper_unfinished, is_cancel_untold, has_to_close, sleeps_for_nothing, NothingUnfinished, IsRightlyAsleep, is_nothing_unfinished, is_rightly_asleep, RightlyAsleepBy, is_always_rightly_asleep}}, proofs.Computing.both_true}
 
 -- LISTS
 

@@ -4,12 +4,9 @@
 -- The first step of a call does what the call is for. From then on the caller is half done, until it returns.
 use Rattle.std.specs.Prelude.{ℕ, Bool, true, false, not, ◌+◌, ◌==◌, ◌&&◌, ◌||◌, nat_le, nat_lt, List, [], ◌∷◌, ◌++◌, length, map, slice_index_or, slice_set, Option, Some, None}
 use Rattle.exec_outcomes.specs.{declared.outcome.OpResult.OpResult, Lawful.{window_of, is_lawful}}
-use Rattle.exec_machine.specs.{declared.{step.Action.Action, event.Event.Event, state.{Rest.TheVariants.Awake, Call.Call}}, Choice.{Payer, Choice, Payer.ByCall, Choice.{Pays, Posts}}, Same.{is_none, is_number}, World.{Seat, Common, seat_of, task_of, request_of}, Tests.{is_awake, has_ended, is_flying, all_left, set_seat}, Requests.{asked_of, cursor_of}, Deadlines.roused_at, Tasks.{after_spawn, wake}, Mail.{has_root_message, is_root_message, is_left_out, after_post, may_rouse, after_rouse}}
-use Rattle.exec_machine.specs.declared.step.Action.TheVariants as action
-use Rattle.exec_machine.specs.declared.event.Event.TheVariants as event
-use Rattle.exec_machine.specs.declared.state.RequestPhase.TheVariants as phase
-use Rattle.exec_machine.specs.declared.state.Call.TheVariants as call
+use Rattle.exec_machine.specs.{declared.{step.Action.{Action, Action as action}, event.Event.{Event, Event as event}, state.{Rest.TheVariants.Awake, Call.{Call, Call as call}}}, Choice.{Payer, Choice, Payer.ByCall, Choice.{Pays, Posts}}, Same.{is_none, is_number}, World.{Seat, Common, seat_of, task_of, request_of}, Tests.{is_awake, has_ended, is_flying, all_left, set_seat}, Requests.{asked_of, cursor_of}, Deadlines.roused_at, Tasks.{after_spawn, wake}, Mail.{has_root_message, is_root_message, is_left_out, after_post, may_rouse, after_rouse}}
 use Rattle.exec_base.specs.declared.limits.TheConstants.{LAST_MOMENT}
+use Rattle.exec_machine.specs.declared.state.RequestPhase.TheVariants as phase
 
 -- WHICH STEPS ARE ENABLED
 

@@ -4,11 +4,9 @@
 -- sends each other worker a root message. Each worker of the pool drains tasks, passes the barrier, is held there until
 -- all have, closes its mailbox, lets go of what tasks still hold, and ends once all its requests are released. A
 -- dedicated worker closes its mailbox at once.
-use Rattle.std.specs.Prelude.{ℕ, zero, suc, Bool, true, not, ◌-◌, ◌==◌, ◌&&◌, ◌||◌, if◌then◌else◌, List, [], ◌∷◌, map, slice_set, Option}
-use Rattle.std.specs.List.{list_all}
+use Rattle.std.specs.{Prelude.{ℕ, zero, suc, Bool, true, not, ◌-◌, ◌==◌, ◌&&◌, ◌||◌, if◌then◌else◌, List, [], ◌∷◌, map, slice_set, Option}, List.list_all}
 use Rattle.exec_outcomes.specs.declared.outcome.Outcome.{Outcome}
-use Rattle.exec_machine.specs.{declared.{config.Configuration.Configuration, state.{Next.Next, TaskPhase.TaskPhase, Sleeper.Sleeper, MailMessage.TheVariants.Root, Letter.Letter}}, Choice.{Choice, Choice.Passes}, Same.{is_none, is_number, same_end}, World.{Own, Seat, Task, Common, seat_of, task_of, request_of}, Tests.{is_at_large, is_open, is_closing, is_done, is_polled, all_left, set_seat, set_task}, Requests.{outcome_of_drop, after_join}, Tasks.{removed, own_after_over, after_over}}
-use Rattle.exec_machine.specs.declared.state.WorkerPhase.TheVariants as worker
+use Rattle.exec_machine.specs.{declared.{config.Configuration.Configuration, state.{Next.Next, TaskPhase.TaskPhase, Sleeper.Sleeper, MailMessage.TheVariants.Root, Letter.Letter, WorkerPhase.WorkerPhase as worker}}, Choice.{Choice, Choice.Passes}, Same.{is_none, is_number, same_end}, World.{Own, Seat, Task, Common, seat_of, task_of, request_of}, Tests.{is_at_large, is_open, is_closing, is_done, is_polled, all_left, set_seat, set_task}, Requests.{outcome_of_drop, after_join}, Tasks.{removed, own_after_over, after_over}}
 use Rattle.exec_machine.specs.declared.state.Next.TheVariants as next
 
 -- TURN

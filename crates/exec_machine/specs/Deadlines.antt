@@ -1,7 +1,6 @@
 -- Events of time: a service samples the clock, deadlines go on the wheel and come, sleepers are made and fire, and a
 -- worker sleeps.
-use Rattle.std.specs.Prelude.{ℕ, Bool, true, false, not, ◌+◌, ◌-◌, ◌*◌, ◌/◌, ◌%◌, ◌==◌, ◌&&◌, ◌||◌, if◌then◌else◌, nat_lt, nat_le, List, [], ◌∷◌, ◌++◌, length, drop, slice_get, slice_set, slice_index_or, unwrap_or, is_some, Option, Some, None}
-use Rattle.std.specs.List.{list_all}
+use Rattle.std.specs.{Prelude.{ℕ, Bool, true, false, not, ◌+◌, ◌-◌, ◌*◌, ◌/◌, ◌%◌, ◌==◌, ◌&&◌, ◌||◌, if◌then◌else◌, nat_lt, nat_le, List, [], ◌∷◌, ◌++◌, length, drop, slice_get, slice_set, slice_index_or, unwrap_or, is_some, Option, Some, None}, List.list_all}
 use Rattle.exec_base.specs.declared.error.{Error.TheVariants.{Timeout, Io}, Cause.TheVariants.InvalidInput}
 use Rattle.exec_outcomes.specs.declared.outcome.Outcome.{Outcome, TheVariants.Failure}
 use Rattle.exec_machine.specs.{declared.{config.Configuration.Configuration, state.{Rest.Rest, Forwarding.TheVariants.Unsent, Request.Request, Sleeper.Sleeper}}, Ranges.{horizon, wheel_slots}, Same.{is_none, is_number, same_number, same_end}, World.{Own, Seat, Common, seat_of, task_of, request_of, sleeper_of, no_request}, Tests.{all_numbered, is_at_large, is_open, is_queued, is_asleep, set_request}, Words.{moved_on, acts, sleep_asked}, Requests.{resolved, joined_if, own_after_end}}

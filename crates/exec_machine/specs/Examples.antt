@@ -1,8 +1,7 @@
 -- Words to write logs by: each line of a log with what it leaves open.
 use Rattle.std.specs.Prelude.{◌≡◌, ℕ, Bool, true, List, [], Some, replicate, map}
-use Rattle.exec_machine.specs.{declared.{config.Configuration.Configuration, step.{Step.Step, Action.Action}, event.{Event.{Event, TheVariants.{Turn, Wake, Send}}, StepResult.TheVariants.{Refused, Did}, Line.Line}}, Choice.{Choice, Payer, Choice.{Plain, Passes, Pays, Posts}}, Run.{after_steps, is_run}, Progress.{Plan, begin, no_stretch, is_solo, is_always_rightly_asleep}}
+use Rattle.exec_machine.specs.{declared.{config.Configuration.Configuration, step.{Step.Step, Action.Action}, event.{Event.{Event, TheVariants.{Turn, Wake, Send}}, StepResult.TheVariants.{Refused, Did}, Line.Line}, state.MailMessage.MailMessage as message}, Choice.{Choice, Payer, Choice.{Plain, Passes, Pays, Posts}}, Run.{after_steps, is_run}, Progress.{Plan, begin, no_stretch, is_solo, is_always_rightly_asleep}}
 use Rattle.exec_machine.specs.declared.step.Action.TheVariants as action
-use Rattle.exec_machine.specs.declared.state.MailMessage.TheVariants as message
 
 -- a configuration to look at
 abbrev pub usual : Configuration

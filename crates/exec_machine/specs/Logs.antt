@@ -1,14 +1,8 @@
 -- Whole logs that are good, with what their lines leave open. `tools/example` wrote them.
 use Rattle.std.specs.Prelude.{false, [], ◌∷◌, ◌++◌, Some, None}
-use Rattle.exec_base.specs.declared.error.Error.TheVariants as error
-use Rattle.exec_base.specs.declared.error.Cause.TheVariants as cause
-use Rattle.exec_outcomes.specs.declared.outcome.Kind.TheVariants as kind
-use Rattle.exec_outcomes.specs.declared.outcome.{OpResult.TheVariants.{Count, Errno}, Outcome.TheVariants.{Success, Failure}}
-use Rattle.exec_machine.specs.declared.config.ScriptWord.TheVariants as word
-use Rattle.exec_machine.specs.declared.step.Step.TheVariants as step
-use Rattle.exec_machine.specs.declared.step.Action.TheVariants as action
-use Rattle.exec_machine.specs.declared.state.MailMessage.TheVariants as message
-use Rattle.exec_machine.specs.{declared.event.Event.TheVariants.{Turn, Serve, Begin, Pend, Done, Spawn, Dedicated, Clear, Admit, Wait, Got, Drop, Timer, GotTimer, Pass, Grant, Enrol, Stage, Enter, Reap, Cancel, Orphan, Release, Fire, Send, Apply, Rouse, Sleep, Close, Stop, End, Return, Land, Clock}, Choice.Payer.{ByRequest, BySleeper, ByAct, ByCall, ByStop}, Examples.{Example, usual, says, does, refuses, passes, pays, posts, times}}
+use Rattle.exec_base.specs.declared.error.{Error.Error as error, Cause.Cause as cause}
+use Rattle.exec_outcomes.specs.declared.outcome.{Kind.Kind as kind, OpResult.TheVariants.{Count, Errno}, Outcome.TheVariants.{Success, Failure}}
+use Rattle.exec_machine.specs.{declared.{config.ScriptWord.ScriptWord as word, step.{Step.Step as step, Action.Action as action}, state.MailMessage.MailMessage as message, event.Event.TheVariants.{Turn, Serve, Begin, Pend, Done, Spawn, Dedicated, Clear, Admit, Wait, Got, Drop, Timer, GotTimer, Pass, Grant, Enrol, Stage, Enter, Reap, Cancel, Orphan, Release, Fire, Send, Apply, Rouse, Sleep, Close, Stop, End, Return, Land, Clock}}, Choice.Payer.{ByRequest, BySleeper, ByAct, ByCall, ByStop}, Examples.{Example, usual, says, does, refuses, passes, pays, posts, times}}
 
 -- A root sends ten bytes, waits, is woken and ends.
 abbrev pub a_send : Example

@@ -1,10 +1,6 @@
 -- Events of messages between workers: sent, applied, met by a closed mailbox; and the rousing of a sleeping worker.
-use Rattle.std.specs.Prelude.{ℕ, Bool, true, false, not, ◌==◌, ◌&&◌, ◌||◌, if◌then◌else◌, List, [], ◌∷◌, ◌++◌, drop, slice_get, slice_set, Option, Some, None}
-use Rattle.std.specs.List.{list_any}
-use Rattle.exec_machine.specs.{declared.{config.ScriptWord.ScriptWord, state.{Rest.TheVariants.Awake, Forwarding.TheVariants.{Sent, Applied}, MailMessage.MailMessage}}, Choice.{Payer, Choice, Payer.{ByRequest, BySleeper, ByAct, ByCall, ByStop}, Choice.{Plain, Passes, Pays, Posts}}, Same.{is_none, is_number, same_message, is_letter}, World.{Own, Seat, Task, Common, seat_of, task_of, request_of, sleeper_of}, Tests.{is_settled, is_at_large, is_open, is_awake, is_unsent, waits_for_nothing, waits_for_request, waits_for_timer, set_seat, set_task, set_request, set_sleeper}, Words.{moved_on, polled_task, acts, asks_await, asks_drop, newest_held}, Requests.{dropped, own_after_drop}, Tasks.{waits_for, polls_waiting, after_letting_go, removed, wake}}
-use Rattle.exec_machine.specs.declared.config.ScriptWord.TheVariants as word
-use Rattle.exec_machine.specs.declared.state.Waiting.TheVariants as waiting
-use Rattle.exec_machine.specs.declared.state.MailMessage.TheVariants as message
+use Rattle.std.specs.{Prelude.{ℕ, Bool, true, false, not, ◌==◌, ◌&&◌, ◌||◌, if◌then◌else◌, List, [], ◌∷◌, ◌++◌, drop, slice_get, slice_set, Option, Some, None}, List.list_any}
+use Rattle.exec_machine.specs.{declared.{config.ScriptWord.{ScriptWord, ScriptWord as word}, state.{Rest.TheVariants.Awake, Forwarding.TheVariants.{Sent, Applied}, MailMessage.{MailMessage, MailMessage as message}, Waiting.Waiting as waiting}}, Choice.{Payer, Choice, Payer.{ByRequest, BySleeper, ByAct, ByCall, ByStop}, Choice.{Plain, Passes, Pays, Posts}}, Same.{is_none, is_number, same_message, is_letter}, World.{Own, Seat, Task, Common, seat_of, task_of, request_of, sleeper_of}, Tests.{is_settled, is_at_large, is_open, is_awake, is_unsent, waits_for_nothing, waits_for_request, waits_for_timer, set_seat, set_task, set_request, set_sleeper}, Words.{moved_on, polled_task, acts, asks_await, asks_drop, newest_held}, Requests.{dropped, own_after_drop}, Tasks.{waits_for, polls_waiting, after_letting_go, removed, wake}}
 
 -- SEND
 

@@ -1,13 +1,8 @@
 -- Whole logs that are good, with what their lines leave open. `tools/example` wrote them.
 use Rattle.std.specs.Prelude.{true, false, [], ◌∷◌, ◌++◌, Some, None}
-use Rattle.exec_base.specs.declared.error.Error.TheVariants as error
-use Rattle.exec_outcomes.specs.declared.outcome.Kind.TheVariants as kind
-use Rattle.exec_outcomes.specs.declared.outcome.{OpResult.TheVariants.{Count, Errno}, Outcome.TheVariants.{Success, Failure}}
-use Rattle.exec_machine.specs.declared.config.ScriptWord.TheVariants as word
-use Rattle.exec_machine.specs.declared.step.Step.TheVariants as step
-use Rattle.exec_machine.specs.declared.step.Action.TheVariants as action
-use Rattle.exec_machine.specs.declared.state.MailMessage.TheVariants as message
-use Rattle.exec_machine.specs.{declared.event.Event.TheVariants.{Turn, Serve, Begin, Pend, Done, Fault, Spawn, Dedicated, Closed, Admit, Wait, Got, Drop, Timer, GotTimer, Pass, Grant, Enrol, Stage, Enter, Busy, Reap, Expire, Cancel, Release, Fire, Apply, Rouse, Sleep, Close, Stop, End, Return, Land, Clock, Set, Stir}, Choice.Payer.{ByRequest, BySleeper, ByAct, ByCall}, Examples.{Example, usual, says, does, refuses, passes, pays, posts, times}}
+use Rattle.exec_base.specs.declared.error.Error.{Error as error}
+use Rattle.exec_outcomes.specs.declared.outcome.{Kind.Kind as kind, OpResult.TheVariants.{Count, Errno}, Outcome.TheVariants.{Success, Failure}}
+use Rattle.exec_machine.specs.{declared.{config.ScriptWord.ScriptWord as word, step.{Step.Step as step, Action.Action as action}, state.MailMessage.MailMessage as message, event.Event.TheVariants.{Turn, Serve, Begin, Pend, Done, Fault, Spawn, Dedicated, Closed, Admit, Wait, Got, Drop, Timer, GotTimer, Pass, Grant, Enrol, Stage, Enter, Busy, Reap, Expire, Cancel, Release, Fire, Apply, Rouse, Sleep, Close, Stop, End, Return, Land, Clock, Set, Stir}}, Choice.Payer.{ByRequest, BySleeper, ByAct, ByCall}, Examples.{Example, usual, says, does, refuses, passes, pays, posts, times}}
 
 -- A ring with one place is busy once, and its wake poll ends; a caller wakes the root.
 abbrev pub a_busy_ring : Example

@@ -2,12 +2,8 @@
 --
 -- A line is quiet where only bookkeeping happened. Among so many lines of one worker or of one caller alone, while no
 -- worker closes, one is not quiet; and wherever all workers sleep nothing is unfinished.
-use Rattle.std.specs.Prelude.{◌≡◌, ℕ, Bool, true, false, not, ◌+◌, ◌*◌, ◌==◌, ◌&&◌, ◌||◌, if◌then◌else◌, nat_lt, nat_le, List, [], ◌∷◌, length}
-use Rattle.std.specs.List.{list_any, list_all}
-use Rattle.exec_machine.specs.{declared.{config.{Configuration.Configuration, ScriptWord.ScriptWord}, step.{Action.Action}, event.{StepResult.{StepResult, TheVariants.{Refused, Did}}, Line.Line}, state.{TaskPhase.TaskPhase, Waiting.Waiting, Request.Request, Sleeper.Sleeper}}, Choice.Choice, Ranges.{ring_size, largest_spin}, Same.{is_none, is_number}, World.{World, Own, Seat, Task, Common, own_of, seat_of, task_of, request_of, sleeper_of, open_of}, Tests.{all_numbered, is_empty, is_open, is_closing, has_ended, is_awake, is_done, is_gated, is_queued, is_staged, is_landed, is_resolved, is_in_flight, is_asleep}, Deadlines.is_due, Callers.is_half_done, Run.{after_line, first_world}, Text.is_quiet}
-use Rattle.exec_machine.specs.declared.step.Action.TheVariants as action
-use Rattle.exec_machine.specs.declared.state.TaskPhase.TheVariants as task
-use Rattle.exec_machine.specs.declared.state.Waiting.TheVariants as waiting
+use Rattle.std.specs.{Prelude.{◌≡◌, ℕ, Bool, true, false, not, ◌+◌, ◌*◌, ◌==◌, ◌&&◌, ◌||◌, if◌then◌else◌, nat_lt, nat_le, List, [], ◌∷◌, length}, List.{list_any, list_all}}
+use Rattle.exec_machine.specs.{declared.{config.{Configuration.Configuration, ScriptWord.ScriptWord}, step.Action.{Action, Action as action}, event.{StepResult.{StepResult, TheVariants.{Refused, Did}}, Line.Line}, state.{TaskPhase.{TaskPhase, TaskPhase as task}, Waiting.{Waiting, Waiting as waiting}, Request.Request, Sleeper.Sleeper}}, Choice.Choice, Ranges.{ring_size, largest_spin}, Same.{is_none, is_number}, World.{World, Own, Seat, Task, Common, own_of, seat_of, task_of, request_of, sleeper_of, open_of}, Tests.{all_numbered, is_empty, is_open, is_closing, has_ended, is_awake, is_done, is_gated, is_queued, is_staged, is_landed, is_resolved, is_in_flight, is_asleep}, Deadlines.is_due, Callers.is_half_done, Run.{after_line, first_world}, Text.is_quiet}
 
 -- QUIET LINES
 

@@ -6,9 +6,8 @@
 use Rattle.std.specs.Prelude.{ℕ, Bool, true, false, not, ◌+◌, ◌-◌, ◌%◌, ◌==◌, ◌&&◌, ◌||◌, if◌then◌else◌, nat_lt, nat_le, List, [], ◌∷◌, ◌++◌, length, drop, filter, slice_get, slice_set, is_some, Option, Some, None}
 use Rattle.exec_base.specs.declared.error.Error.TheVariants.{Timeout}
 use Rattle.exec_outcomes.specs.{declared.outcome.{Kind.Kind, OpResult.OpResult, Judged.Judged, Outcome.{Outcome, TheVariants.Failure}}, Outcomes.{Asked, Cursor, outcome_next, cursor_next, refuses_hint}, Accounts.{Account, changed, is_durable, account_after, outcome_told, outcome_at_grant}}
+use Rattle.exec_machine.specs.{declared.{config.{Configuration.Configuration, ScriptWord.{ScriptWord, ScriptWord as word}}, state.{Forwarding.TheVariants.Unsent, RequestPhase.RequestPhase, Operation.Operation, Request.Request}}, Ranges.ring_size, Same.{is_none, is_number, same_end, same_kind}, World.{Own, Open, Common, no_operation, seat_of, task_of, request_of, open_of}, Tests.{is_at_large, is_open, is_gated, is_queued, is_staged, is_landed_with, is_resolved, is_in_flight, is_of_file, is_kept, set_open}, Words.{next_word, moved_on, polled_task, acts}}
 use Rattle.exec_outcomes.specs.declared.outcome.Kind.TheVariants as kind
-use Rattle.exec_machine.specs.{declared.{config.{Configuration.Configuration, ScriptWord.ScriptWord}, state.{Forwarding.TheVariants.Unsent, RequestPhase.RequestPhase, Operation.Operation, Request.Request}}, Ranges.ring_size, Same.{is_none, is_number, same_end, same_kind}, World.{Own, Open, Common, no_operation, seat_of, task_of, request_of, open_of}, Tests.{is_at_large, is_open, is_gated, is_queued, is_staged, is_landed_with, is_resolved, is_in_flight, is_of_file, is_kept, set_open}, Words.{next_word, moved_on, polled_task, acts}}
-use Rattle.exec_machine.specs.declared.config.ScriptWord.TheVariants as word
 use Rattle.exec_machine.specs.declared.state.Next.TheVariants as next
 use Rattle.exec_machine.specs.declared.state.RequestPhase.TheVariants as phase
 

@@ -1,11 +1,6 @@
 -- Which list of lines is the log of a run.
-use Rattle.std.specs.Prelude.{ℕ, zero, suc, Bool, true, false, not, ◌==◌, ◌&&◌, if◌then◌else◌, List, [], ◌∷◌, Option, Some, None, option_and_then, replicate}
-use Rattle.std.specs.List.{list_all}
-use Rattle.exec_machine.specs.{declared.{config.{Configuration.Configuration, ScriptWord.ScriptWord}, step.{Step.Step, Action.Action}, event.{Event.Event, StepResult.{StepResult, TheVariants.{Refused, Did}}, Line.Line}, state.Code.Code}, Choice.Choice, Same.same_result, World.{World, Own, Task, Common, no_open, own_of}, Tests.AllTrue, Tasks.{new_task, new_own, new_seat}, Allowed.allowed, After.after, Callers.{is_enabled, may_spawn_by_call, may_wake_by_call, may_go_on_by, is_told_as, common_by}}
-use Rattle.exec_machine.specs.declared.step.Step.TheVariants as step
-use Rattle.exec_machine.specs.declared.step.Action.TheVariants as action
-use Rattle.exec_machine.specs.declared.state.Code.TheVariants as code
-use Rattle.exec_machine.specs.declared.state.Call.TheVariants as call
+use Rattle.std.specs.{Prelude.{ℕ, zero, suc, Bool, true, false, not, ◌==◌, ◌&&◌, if◌then◌else◌, List, [], ◌∷◌, Option, Some, None, option_and_then, replicate}, List.list_all}
+use Rattle.exec_machine.specs.{declared.{config.{Configuration.Configuration, ScriptWord.ScriptWord}, step.{Step.{Step, Step as step}, Action.{Action, Action as action}}, event.{Event.Event, StepResult.{StepResult, TheVariants.{Refused, Did}}, Line.Line}, state.{Code.{Code, Code as code}, Call.Call as call}}, Choice.Choice, Same.same_result, World.{World, Own, Task, Common, no_open, own_of}, Tests.AllTrue, Tasks.{new_task, new_own, new_seat}, Allowed.allowed, After.after, Callers.{is_enabled, may_spawn_by_call, may_wake_by_call, may_go_on_by, is_told_as, common_by}}
 
 -- LINES
 

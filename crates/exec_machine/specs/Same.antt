@@ -1,12 +1,8 @@
 -- When two things that events name are the same, as tests that compute.
 use Rattle.std.specs.Prelude.{ℕ, Bool, true, false, ◌==◌, ◌&&◌, Option, Some, None}
-use Rattle.exec_base.specs.declared.error.{Cause.Cause, Error.Error}
-use Rattle.exec_base.specs.declared.error.Cause.TheVariants as cause
-use Rattle.exec_base.specs.declared.error.Error.TheVariants as error
-use Rattle.exec_outcomes.specs.declared.outcome.{Kind.Kind, OpResult.{OpResult, TheVariants.{Count, Errno}}, Outcome.{Outcome, TheVariants.{Success, Failure}}}
-use Rattle.exec_outcomes.specs.declared.outcome.Kind.TheVariants as kind
-use Rattle.exec_machine.specs.declared.state.{MailMessage.MailMessage, Letter.Letter}
-use Rattle.exec_machine.specs.declared.state.MailMessage.TheVariants as message
+use Rattle.exec_base.specs.declared.error.{Cause.{Cause, Cause as cause}, Error.{Error, Error as error}}
+use Rattle.exec_outcomes.specs.declared.outcome.{Kind.{Kind, Kind as kind}, OpResult.{OpResult, TheVariants.{Count, Errno}}, Outcome.{Outcome, TheVariants.{Success, Failure}}}
+use Rattle.exec_machine.specs.declared.state.{MailMessage.{MailMessage, MailMessage as message}, Letter.Letter}
 
 abbrev pub is_none : {X : Type 0} → Option X → Bool
 is_none None = true

@@ -5,9 +5,8 @@
 -- worker then owes.
 use Rattle.std.specs.Prelude.{ℕ, Bool, true, false, not, ◌+◌, ◌-◌, ◌==◌, ◌&&◌, ◌||◌, if◌then◌else◌, List, [], ◌∷◌, ◌++◌, length, take, slice_set, slice_index_or, Option, Some, None}
 use Rattle.exec_outcomes.specs.declared.outcome.Outcome.{Outcome}
-use Rattle.exec_machine.specs.{declared.{config.ScriptWord.ScriptWord, state.{Code.Code, WorkerPhase.TheVariants.Open, TaskPhase.TaskPhase, Waiting.Waiting, Forwarding.Forwarding, Request.Request, Sleeper.Sleeper, MailMessage.TheVariants.{CancelRequest, CancelTimer}, Letter.Letter}}, Choice.{Payer, Choice, Payer.{ByRequest, BySleeper, ByAct, ByCall, ByStop}, Choice.{Plain, Passes, Pays, Posts}}, Same.{is_none, is_number}, World.{Own, Seat, Task, Common, no_own, no_seat, seat_of, task_of, request_of, sleeper_of, no_request}, Tests.{is_empty, is_settled, is_at_large, is_open, is_ready, waits_for_nothing, is_woken, waits_for_request, waits_for_timer, is_unsent, is_applied, is_resolved, is_resolved_with, set_task, set_request, set_sleeper}, Words.{next_word, moved_on, polled_task, acts, asks_await, asks_drop, asks_yield, asks_wake, asks_spawn, asks_dedicated, asks_no_sleep, script_asked, newest_held}, Requests.{dropped, own_after_drop}}
+use Rattle.exec_machine.specs.{declared.{config.ScriptWord.ScriptWord, state.{Code.Code, WorkerPhase.TheVariants.Open, TaskPhase.{TaskPhase, TaskPhase as task}, Waiting.Waiting, Forwarding.Forwarding, Request.Request, Sleeper.Sleeper, MailMessage.TheVariants.{CancelRequest, CancelTimer}, Letter.Letter}}, Choice.{Payer, Choice, Payer.{ByRequest, BySleeper, ByAct, ByCall, ByStop}, Choice.{Plain, Passes, Pays, Posts}}, Same.{is_none, is_number}, World.{Own, Seat, Task, Common, no_own, no_seat, seat_of, task_of, request_of, sleeper_of, no_request}, Tests.{is_empty, is_settled, is_at_large, is_open, is_ready, waits_for_nothing, is_woken, waits_for_request, waits_for_timer, is_unsent, is_applied, is_resolved, is_resolved_with, set_task, set_request, set_sleeper}, Words.{next_word, moved_on, polled_task, acts, asks_await, asks_drop, asks_yield, asks_wake, asks_spawn, asks_dedicated, asks_no_sleep, script_asked, newest_held}, Requests.{dropped, own_after_drop}}
 use Rattle.exec_machine.specs.declared.state.Code.TheVariants as code
-use Rattle.exec_machine.specs.declared.state.TaskPhase.TheVariants as task
 use Rattle.exec_machine.specs.declared.state.Waiting.TheVariants as waiting
 use Rattle.exec_machine.specs.declared.state.Forwarding.TheVariants as forwarding
 

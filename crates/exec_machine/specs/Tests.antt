@@ -1,16 +1,7 @@
 -- Tests of the parts of a state, and where they stand in it.
-use Rattle.std.specs.Prelude.{◌≡◌, ℕ, suc, Bool, true, false, not, ◌==◌, ◌&&◌, ◌||◌, List, [], ◌∷◌, slice_set}
-use Rattle.std.specs.List.{list_all}
-use Rattle.exec_outcomes.specs.declared.outcome.{Kind.Kind, OpResult.OpResult, Outcome.Outcome}
-use Rattle.exec_outcomes.specs.declared.outcome.Kind.TheVariants as kind
-use Rattle.exec_machine.specs.{declared.state.{WorkerPhase.WorkerPhase, Rest.Rest, Next.Next, TaskPhase.TaskPhase, Waiting.Waiting, Forwarding.Forwarding, RequestPhase.RequestPhase, Request.Request, Sleeper.Sleeper}, World.{Own, Seat, Task, Open, Common}, Same.{is_none, same_result, same_outcome}}
-use Rattle.exec_machine.specs.declared.state.WorkerPhase.TheVariants as worker
-use Rattle.exec_machine.specs.declared.state.Rest.TheVariants as rest
-use Rattle.exec_machine.specs.declared.state.Next.TheVariants as next
-use Rattle.exec_machine.specs.declared.state.TaskPhase.TheVariants as task
-use Rattle.exec_machine.specs.declared.state.Waiting.TheVariants as waiting
-use Rattle.exec_machine.specs.declared.state.Forwarding.TheVariants as forwarding
-use Rattle.exec_machine.specs.declared.state.RequestPhase.TheVariants as phase
+use Rattle.std.specs.{Prelude.{◌≡◌, ℕ, suc, Bool, true, false, not, ◌==◌, ◌&&◌, ◌||◌, List, [], ◌∷◌, slice_set}, List.list_all}
+use Rattle.exec_outcomes.specs.declared.outcome.{Kind.{Kind, Kind as kind}, OpResult.OpResult, Outcome.Outcome}
+use Rattle.exec_machine.specs.{declared.state.{WorkerPhase.{WorkerPhase, WorkerPhase as worker}, Rest.{Rest, Rest as rest}, Next.{Next, Next as next}, TaskPhase.{TaskPhase, TaskPhase as task}, Waiting.{Waiting, Waiting as waiting}, Forwarding.{Forwarding, Forwarding as forwarding}, RequestPhase.{RequestPhase, RequestPhase as phase}, Request.Request, Sleeper.Sleeper}, World.{Own, Seat, Task, Open, Common}, Same.{is_none, same_result, same_outcome}}
 
 -- lists
 

@@ -1,11 +1,8 @@
 -- How a log is written.
-use Rattle.std.specs.Prelude.{ℕ, Bool, true, false, not, List, [], ◌∷◌, ◌++◌, Option, Some, None, codes, filter, if◌then◌else◌}
-use Rattle.std.specs.Fmt.{decimal}
-use Rattle.std.specs.List.{flat_map}
+use Rattle.std.specs.{Prelude.{ℕ, Bool, true, false, not, List, [], ◌∷◌, ◌++◌, Option, Some, None, codes, filter, if◌then◌else◌}, Fmt.decimal, List.flat_map}
 use Rattle.exec_outcomes.specs.{declared.outcome.Outcome.Outcome, Text.{text_of_result, text_of_outcome, text_of_kind}}
-use Rattle.exec_machine.specs.declared.{state.MailMessage.MailMessage, step.Action.Action, event.{Event.Event, StepResult.{StepResult, TheVariants.{Refused, Did}}, Line.Line}}
+use Rattle.exec_machine.specs.declared.{state.MailMessage.MailMessage, step.Action.{Action, Action as action}, event.{Event.Event, StepResult.{StepResult, TheVariants.{Refused, Did}}, Line.Line}}
 use Rattle.exec_machine.specs.declared.state.MailMessage.TheVariants as message
-use Rattle.exec_machine.specs.declared.step.Action.TheVariants as action
 use Rattle.exec_machine.specs.declared.event.Event.TheVariants as event
 
 -- a step of a log line

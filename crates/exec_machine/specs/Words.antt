@@ -1,8 +1,6 @@
 -- What a task does next: the word of its next act, as far as its script, what it holds and the world say.
 use Rattle.std.specs.Prelude.{ℕ, zero, suc, Bool, true, false, ◌+◌, ◌-◌, ◌==◌, ◌&&◌, if◌then◌else◌, nat_le, min, List, [], ◌∷◌, length, drop, slice_get, slice_index_or, Option, Some, None}
-use Rattle.exec_machine.specs.{declared.{config.ScriptWord.ScriptWord, state.Code.Code}, World.{Own, Task, Common, no_task, task_of}, Tests.{is_empty, is_settled, waits_for_nothing}}
-use Rattle.exec_machine.specs.declared.config.ScriptWord.TheVariants as word
-use Rattle.exec_machine.specs.declared.state.Code.TheVariants as code
+use Rattle.exec_machine.specs.{declared.{config.ScriptWord.{ScriptWord, ScriptWord as word}, state.Code.{Code, Code as code}}, World.{Own, Task, Common, no_task, task_of}, Tests.{is_empty, is_settled, waits_for_nothing}}
 use Rattle.exec_base.specs.declared.limits.TheConstants.{LONGEST_TIMEOUT}
 
 -- what a task that waits until the pool is stopped has yet to run

@@ -1,7 +1,6 @@
 //! Laws of the machine, for every run.
 
-ghost use Rattle.std.specs.Prelude.{◌≡◌, ◌<◌, ℕ, true, false, List, [], ◌∷◌, ◌++◌, length};
-ghost use Rattle.std.specs.Prelude.{Option, Some, slice_index_or, slice_set};
+ghost use Rattle.std.specs.Prelude.{◌≡◌, ◌<◌, ℕ, true, false, List, [], ◌∷◌, ◌++◌, length, Option, Some, slice_index_or, slice_set};
 ghost use Rattle.exec_outcomes.specs.{declared.outcome.{OpResult.OpResult, Outcome.Outcome}, Outcomes.{HasCome, outcome_of}};
 ghost use Rattle.exec_machine.specs.{declared.{config.Configuration.Configuration, step.Action.{Action, TheVariants.Work}, event.{Event.Event, StepResult.StepResult, Line.Line}, state.{RequestPhase.TheVariants.Resolved, Request.Request, Sleeper.Sleeper}}, Choice.Choice, World.{World, Own, own_of, request_of, no_request, no_sleeper}, Tests.{IsOther, is_resolved}, Requests.{asked_of, cursor_of, judged_of, account_of_open, outcome_shown}, Deadlines.{first_timer, is_first_due, first_until, is_none_earlier}, After.after, Run.{RunsBy, is_run, after_line, world_after}, Results.{results_of, reaps}, Progress.{Plan, begin, IsRightlyAsleep, is_rightly_asleep, RightlyAsleepBy, is_always_rightly_asleep}};
 

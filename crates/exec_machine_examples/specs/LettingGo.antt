@@ -1,14 +1,9 @@
 -- More logs that are good, in which things are let go: by tasks elsewhere, by a drain, as a worker closes.
 -- `tools/example` wrote them.
 use Rattle.std.specs.Prelude.{false, [], ◌∷◌, ◌++◌, Some, None}
-use Rattle.exec_base.specs.declared.error.Error.TheVariants as error
-use Rattle.exec_outcomes.specs.declared.outcome.Kind.TheVariants as kind
-use Rattle.exec_outcomes.specs.declared.outcome.{OpResult.TheVariants.{Count, Errno}, Outcome.TheVariants.{Success, Failure}}
-use Rattle.exec_machine.specs.declared.config.ScriptWord.TheVariants as word
-use Rattle.exec_machine.specs.declared.step.Step.TheVariants as step
-use Rattle.exec_machine.specs.declared.step.Action.TheVariants as action
-use Rattle.exec_machine.specs.declared.state.MailMessage.TheVariants as message
-use Rattle.exec_machine.specs.{declared.event.Event.TheVariants.{Turn, Serve, Begin, Pend, Done, Spawn, Clear, Admit, Wait, Got, Drop, Timer, GotTimer, Pass, Grant, Enrol, Stage, Enter, Reap, Expire, Cancel, Orphan, Release, Fire, Send, Apply, Sleep, Close, Stop, Land, Clock}, Choice.Payer.{ByRequest, BySleeper, ByAct, ByCall, ByStop}, Examples.{Example, usual, says, does, passes, pays, posts, times}}
+use Rattle.exec_base.specs.declared.error.Error.{Error as error}
+use Rattle.exec_outcomes.specs.declared.outcome.{Kind.Kind as kind, OpResult.TheVariants.{Count, Errno}, Outcome.TheVariants.{Success, Failure}}
+use Rattle.exec_machine.specs.{declared.{config.ScriptWord.ScriptWord as word, step.{Step.Step as step, Action.Action as action}, state.MailMessage.MailMessage as message, event.Event.TheVariants.{Turn, Serve, Begin, Pend, Done, Spawn, Clear, Admit, Wait, Got, Drop, Timer, GotTimer, Pass, Grant, Enrol, Stage, Enter, Reap, Expire, Cancel, Orphan, Release, Fire, Send, Apply, Sleep, Close, Stop, Land, Clock}}, Choice.Payer.{ByRequest, BySleeper, ByAct, ByCall, ByStop}, Examples.{Example, usual, says, does, passes, pays, posts, times}}
 
 -- A sleeper fires before it is forwarded, while another worker polls the task that waits for it: it owes two wakes.
 abbrev pub a_late_forward : Example

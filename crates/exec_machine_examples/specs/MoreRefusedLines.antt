@@ -1,11 +1,9 @@
 -- Lines that may not come. Each stands in place of a line of a good log, in a state that the log reaches, and
 -- is refused for what is said above it.
 use Rattle.std.specs.Prelude.{true, false, List, [], ◌∷◌, Some, None}
-use Rattle.exec_base.specs.declared.error.Error.TheVariants as error
+use Rattle.exec_base.specs.declared.error.Error.{Error as error}
 use Rattle.exec_outcomes.specs.declared.outcome.{OpResult.TheVariants.{Count, Errno}, Outcome.TheVariants.{Success, Failure}}
-use Rattle.exec_machine.specs.declared.step.Action.TheVariants as action
-use Rattle.exec_machine.specs.declared.state.MailMessage.TheVariants as message
-use Rattle.exec_machine.specs.{declared.event.Event.TheVariants.{Turn, Begin, Pend, Done, Fault, Spawn, Dedicated, Closed, Clear, Wait, Got, Timer, GotTimer, Pass, Wake, Grant, Enrol, Stage, Enter, Busy, Reap, Expire, Cancel, Orphan, Release, Fire, Send, Apply, Rouse, Sleep, Close, Stop, End, Peer}, Choice.{Payer.{ByRequest, BySleeper, ByAct, ByCall, ByStop}, Choice.{Passes, Pays, Posts}}, Examples.{says, does, refuses, passes, pays, posts}}
+use Rattle.exec_machine.specs.{declared.{step.Action.Action as action, state.MailMessage.MailMessage as message, event.Event.TheVariants.{Turn, Begin, Pend, Done, Fault, Spawn, Dedicated, Closed, Clear, Wait, Got, Timer, GotTimer, Pass, Wake, Grant, Enrol, Stage, Enter, Busy, Reap, Expire, Cancel, Orphan, Release, Fire, Send, Apply, Rouse, Sleep, Close, Stop, End, Peer}}, Choice.{Payer.{ByRequest, BySleeper, ByAct, ByCall, ByStop}, Choice.{Passes, Pays, Posts}}, Examples.{says, does, refuses, passes, pays, posts}}
 use Rattle.exec_machine_examples.specs.Refusals.{Refusal, fails, fails_twice, leaves}
 
 abbrev pub refused_in_a_sleeper_elsewhere : List Refusal

@@ -1,13 +1,9 @@
 -- Lines that may not come. Each stands in place of a line of a good log, in a state that the log reaches, and
 -- is refused for what is said above it.
 use Rattle.std.specs.Prelude.{false, List, [], ◌∷◌, ◌++◌, map, Some, None}
-use Rattle.exec_base.specs.declared.error.Error.TheVariants as error
-use Rattle.exec_base.specs.declared.error.Cause.TheVariants as cause
-use Rattle.exec_outcomes.specs.declared.outcome.Kind.TheVariants as kind
-use Rattle.exec_outcomes.specs.declared.outcome.{OpResult.TheVariants.Count, Outcome.TheVariants.{Success, Failure}}
-use Rattle.exec_machine.specs.declared.step.Action.TheVariants as action
-use Rattle.exec_machine.specs.declared.state.MailMessage.TheVariants as message
-use Rattle.exec_machine.specs.{declared.event.Event.TheVariants.{Turn, Serve, Begin, Pend, Done, Spawn, Dedicated, Closed, Admit, Wait, Got, Drop, Grant, Enrol, Stage, Enter, Busy, Reap, Expire, Cancel, Orphan, Release, Send, Apply, Rouse, Sleep, End, Return, Land, Clock, Set, Stir, Peer}, Choice.Payer.{ByRequest, ByAct, ByCall}, Examples.{says, does, refuses, passes, pays, posts}}
+use Rattle.exec_base.specs.declared.error.{Error.Error as error, Cause.Cause as cause}
+use Rattle.exec_outcomes.specs.declared.outcome.{Kind.Kind as kind, OpResult.TheVariants.Count, Outcome.TheVariants.{Success, Failure}}
+use Rattle.exec_machine.specs.{declared.{step.Action.Action as action, state.MailMessage.MailMessage as message, event.Event.TheVariants.{Turn, Serve, Begin, Pend, Done, Spawn, Dedicated, Closed, Admit, Wait, Got, Drop, Grant, Enrol, Stage, Enter, Busy, Reap, Expire, Cancel, Orphan, Release, Send, Apply, Rouse, Sleep, End, Return, Land, Clock, Set, Stir, Peer}}, Choice.Payer.{ByRequest, ByAct, ByCall}, Examples.{says, does, refuses, passes, pays, posts}}
 use Rattle.exec_machine_examples.specs.Refusals.{Refusal, fails, fails_twice}
 
 abbrev pub refused_in_a_send : List Refusal

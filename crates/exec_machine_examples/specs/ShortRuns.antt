@@ -1,12 +1,8 @@
 -- Short runs, without what a worker does between two tasks: what may come after them, and what may not.
 use Rattle.std.specs.Prelude.{ℕ, Bool, true, false, ◌+◌, List, [], ◌∷◌, ◌++◌, Some, None}
-use Rattle.exec_base.specs.declared.error.Error.TheVariants as error
-use Rattle.exec_outcomes.specs.declared.outcome.Kind.TheVariants as kind
-use Rattle.exec_outcomes.specs.declared.outcome.{OpResult.TheVariants.{Count, Errno}, Outcome.TheVariants.{Success, Failure}}
-use Rattle.exec_machine.specs.declared.config.ScriptWord.TheVariants as word
-use Rattle.exec_machine.specs.declared.step.Action.TheVariants as action
-use Rattle.exec_machine.specs.declared.state.MailMessage.TheVariants as message
-use Rattle.exec_machine.specs.{declared.{config.ScriptWord.ScriptWord, event.Event.TheVariants.{Turn, Serve, Begin, Pend, Done, Spawn, Dedicated, Clear, Admit, Wait, Got, Drop, Timer, GotTimer, Grant, Enrol, Stage, Enter, Reap, Expire, Cancel, Fire, Send, Apply, Sleep, Close, Stop, End, Return, Land, Clock}, state.MailMessage.MailMessage}, Choice.{Payer.{ByRequest, BySleeper, ByAct, ByCall, ByStop}, Choice.Posts}, World.World, Run.{is_run, world_after}, Progress.{Plan, begin}, Examples.{Told, usual, says, does, passes, pays, posts, lines_of, choices_of}}
+use Rattle.exec_base.specs.declared.error.Error.{Error as error}
+use Rattle.exec_outcomes.specs.declared.outcome.{Kind.Kind as kind, OpResult.TheVariants.{Count, Errno}, Outcome.TheVariants.{Success, Failure}}
+use Rattle.exec_machine.specs.{declared.{config.ScriptWord.{ScriptWord as word, ScriptWord}, step.Action.Action as action, state.MailMessage.{MailMessage as message, MailMessage}, event.Event.TheVariants.{Turn, Serve, Begin, Pend, Done, Spawn, Dedicated, Clear, Admit, Wait, Got, Drop, Timer, GotTimer, Grant, Enrol, Stage, Enter, Reap, Expire, Cancel, Fire, Send, Apply, Sleep, Close, Stop, End, Return, Land, Clock}}, Choice.{Payer.{ByRequest, BySleeper, ByAct, ByCall, ByStop}, Choice.Posts}, World.World, Run.{is_run, world_after}, Progress.{Plan, begin}, Examples.{Told, usual, says, does, passes, pays, posts, lines_of, choices_of}}
 use Rattle.exec_machine_examples.specs.Refusals.{tests_failed, leaves}
 
 -- the state that the lines reach, whether they are a run, and the places of the tests that this line then fails

@@ -1,12 +1,7 @@
 -- States to look at: one worker with its root, and one request, one sleeper or one open.
 use Rattle.std.specs.Prelude.{ℕ, Bool, true, List, [], ◌∷◌, Some, None, replicate, slice_set}
-use Rattle.exec_outcomes.specs.declared.outcome.Kind.TheVariants as kind
-use Rattle.exec_outcomes.specs.declared.outcome.Outcome.TheVariants.{Success}
-use Rattle.exec_machine.specs.{declared.{config.Configuration.Configuration, event.{StepResult.TheVariants.Did, Line.Line}, step.Action.Action, state.{Rest.TheVariants.Forever, Waiting.Waiting, RequestPhase.RequestPhase, Request.Request, Sleeper.Sleeper}}, Choice.Choice.Plain, World.{World, Own, Seat, Task, Open, own_of, seat_of, task_of}, Requests.{of_socket, of_file, new_request}, Deadlines.new_sleeper, Run.first_world, Progress.{is_rightly_asleep, is_solo, no_stretch}}
-use Rattle.exec_machine.specs.declared.config.ScriptWord.TheVariants as word
-use Rattle.exec_machine.specs.declared.event.Event.TheVariants as event
-use Rattle.exec_machine.specs.declared.state.WorkerPhase.TheVariants as worker
-use Rattle.exec_machine.specs.declared.state.TaskPhase.TheVariants as task
+use Rattle.exec_outcomes.specs.declared.outcome.{Kind.Kind as kind, Outcome.TheVariants.Success}
+use Rattle.exec_machine.specs.{declared.{config.{Configuration.Configuration, ScriptWord.ScriptWord as word}, event.{StepResult.TheVariants.Did, Line.Line, Event.Event as event}, step.Action.Action, state.{Rest.TheVariants.Forever, Waiting.Waiting, RequestPhase.RequestPhase, Request.Request, Sleeper.Sleeper, WorkerPhase.WorkerPhase as worker, TaskPhase.TaskPhase as task}}, Choice.Choice.Plain, World.{World, Own, Seat, Task, Open, own_of, seat_of, task_of}, Requests.{of_socket, of_file, new_request}, Deadlines.new_sleeper, Run.first_world, Progress.{is_rightly_asleep, is_solo, no_stretch}}
 use Rattle.exec_machine.specs.declared.state.Waiting.TheVariants as waiting
 use Rattle.exec_machine.specs.declared.state.RequestPhase.TheVariants as phase
 

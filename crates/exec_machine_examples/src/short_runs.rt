@@ -3,11 +3,8 @@
 ghost use Rattle.std.specs.Prelude.{◌≡◌, true, [], ◌∷◌, ◌++◌, Some, None};
 ghost use Rattle.exec_base.specs.declared.error.Error.TheVariants.{Timeout, ReadFailed};
 ghost use Rattle.exec_outcomes.specs.declared.outcome.{OpResult.TheVariants.{Count, Errno}, Outcome.TheVariants.{Success, Failure}};
-ghost use Rattle.exec_machine.specs.{declared.event.Event.TheVariants.{Turn, Begin, Pend, Done, Closed, Wait, Timer, Grant, Stage, Enter, Reap, Expire, Cancel, Send, Apply, Sleep, Close, End, Land, Clock, Peer}, Choice.Payer.{ByRequest, BySleeper, ByAct}, Progress.is_rightly_asleep, Examples.{says, does, refuses, pays}};
+ghost use Rattle.exec_machine.specs.{declared.{event.Event.TheVariants.{Turn, Begin, Pend, Done, Closed, Wait, Timer, Grant, Stage, Enter, Reap, Expire, Cancel, Send, Apply, Sleep, Close, End, Land, Clock, Peer}, config.ScriptWord.ScriptWord as word, step.Action.Action as action, state.MailMessage.MailMessage as message}, Choice.Payer.{ByRequest, BySleeper, ByAct}, Progress.is_rightly_asleep, Examples.{says, does, refuses, pays}};
 ghost use Rattle.exec_machine_examples.specs.ShortRuns.{reached_by, are_run, fails_after, waking, before_a_wake, a_wake, idling, passed_over, sending, a_wait, polled_elsewhere, polled_again, root_over, got_after_forward, yielding, awaited_elsewhere, forwarded_as_left_out, cleared_by, writing, a_write, a_forwarded_write, sleeping, a_sleep, cleared_in_a_poll, making, a_closed_set, with_a_task, a_live_task, with_a_worker, a_live_worker, an_end_with_a_sleeper, a_sleeping_root, another_end, ring_of_two, a_full_ring, reading, a_refused_read, hinting, a_refused_hint, a_hint_refused_later, direct, a_refused_direct, filling, a_part, letting_go_of, a_write_let_go, a_late_send_let_go, write_and_sync, a_write_ahead, write_and_syncs, a_synced_write, syncing, three_gated, two_files, two_gated, napping_worker, a_late_worker, sending_worker, a_late_send, two_sends, two_enrolled, two_due, nearly_due, eight_slots, sampled_after, eight_slots_late, sampled_late};
-ghost use Rattle.exec_machine.specs.declared.config.ScriptWord.TheVariants as word;
-ghost use Rattle.exec_machine.specs.declared.step.Action.TheVariants as action;
-ghost use Rattle.exec_machine.specs.declared.state.MailMessage.TheVariants as message;
 
 /// A task wakes the one that its word says, and goes on in its poll. Words that give no act are
 /// passed over, and not met again. A poll may not end on another worker's request, and may once

@@ -1,16 +1,12 @@
 //! Worked examples of what is unfinished, and of quiet lines on end, proved by computation.
 
 ghost use Rattle.std.specs.Prelude.{◌≡◌, true, false, [], ◌∷◌, ◌++◌, Some, None};
-ghost use Rattle.exec_outcomes.specs.declared.outcome.{OpResult.TheVariants.Count};
-ghost use Rattle.exec_machine.specs.{declared.event.{Event.TheVariants.{Begin, Busy, Clock}, StepResult.TheVariants.{Did, Refused}}, World.{own_of, seat_of, no_open}, Progress.{quiet_bound, all_asleep, is_rightly_asleep}};
+ghost use Rattle.exec_outcomes.specs.declared.outcome.OpResult.TheVariants.{Count};
+ghost use Rattle.exec_machine.specs.{declared.{event.{Event.TheVariants.{Begin, Busy, Clock}, StepResult.TheVariants.{Did, Refused}}, state.{WorkerPhase.WorkerPhase as worker, TaskPhase.TaskPhase as task, Waiting.Waiting as waiting, Call.Call as call}}, World.{own_of, seat_of, no_open}, Progress.{quiet_bound, all_asleep, is_rightly_asleep}};
 ghost use Rattle.exec_machine_examples.specs.Unfinished.{one_worker, the_config, spinning, at_first, with_root, with_seat, with_own, waits, asleep, with_requests, with_sleeper, with_open, at_clock, send_in, send_over, cancelled, gated_sync, until_five, with_one, napping, closing, is_right, turns, are_solo};
 ghost use Rattle.exec_machine.specs.declared.step.Action.TheVariants as action;
-ghost use Rattle.exec_machine.specs.declared.state.WorkerPhase.TheVariants as worker;
-ghost use Rattle.exec_machine.specs.declared.state.TaskPhase.TheVariants as task;
-ghost use Rattle.exec_machine.specs.declared.state.Waiting.TheVariants as waiting;
 ghost use Rattle.exec_machine.specs.declared.state.RequestPhase.TheVariants as phase;
 ghost use Rattle.exec_machine.specs.declared.state.MailMessage.TheVariants as message;
-ghost use Rattle.exec_machine.specs.declared.state.Call.TheVariants as call;
 
 /// Nothing is unfinished while the one request is in flight and its deadline ahead, also once its
 /// cancel was told; where a cancel is untold of a request that is over; while a request waits for

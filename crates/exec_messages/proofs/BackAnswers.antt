@@ -2,14 +2,12 @@
 use Rattle.std.proofs.{Common.{[], ◌≡◌, ℕ, ◌+◌, ◌<◌, ◌≤◌, ◌==◌, ◌&&◌, ◌||◌, true, false, not, List, ◌∷◌, drop, length, map, Option, Some, None, nat_lt, refl, sym, ap, subst, ◌∙◌, arith, slice_get, slice_set}, lemmas.{Bool.Decides.nat_tests, List.map-set, Option.slice_get_within}}
 use Rattle.exec_base.specs.OneShot.{sent as sent_into}
 use Rattle.exec_waiters.specs.{Told.is_untold, declared.deferred.{Answer.Answer, Deferred.Deferred}}
-use Rattle.exec_task.specs.{Phases.is_polled, declared.body.Said.{Said}}
+use Rattle.exec_task.specs.{Phases.is_polled, declared.body.Said.Said}
 use Rattle.exec_machine.specs.{Choice.Choice.Plain, declared.{event.Event.{Event, TheVariants.Turn}, state.Forwarding.Forwarding}, Ranges.ring_size, Tests.{is_applied, is_resolved}}
 use Rattle.exec_moves.specs.{Callback.tells_waiter, declared.{handing.{AfterCallbacks.AfterCallbacks, Heard.Heard}, place.{InCallbacks.InCallbacks, Place.Place}}, Move.move_item, State.Desk, Thing.set_answers, Told.in_order}
 use Rattle.exec_parts.{specs.{declared.parts.{mail.Reply.Reply, record.Record.Record, shared.Shared.Shared, sleeping.SleeperRecord.SleeperRecord, task_slot.TaskSlot.TaskSlot, worker.Worker.Worker}, Calls.{as_sent, IsTold}, MailTakes.{IsSentOutput, MaySendOutput, SendsOutput}, Serving.{changed_at, changed_in}, Spots.Spot, View.{common_of, completions_in, desk_of, driver_of, number_heard, numbers_of_passing, open_seen, own_of, results_in, task_seen, things_with}}, proofs.Facts.{and_parts, same_Some, set_there}}
-use Rattle.exec_invariants.proofs.Showing.{map_kept}
-use Rattle.exec_invariants.{specs.{Gates.at_gate, HoldPlaces.spare_before, Holding.{IsHolding, box_of, holder_of, nap_of, thing_of}, Rooted.{HasHeard, IsResult, IsRooted}, Names.{HasWidth, tellers}, Sound.{IsResting, SoundAt}, Whole.{HasWhole, hands_of, with_worker}, Works.Steps}, proofs.{Hearing.hears_so, HoldBeside.Handles, Keys.{names_changed, same_opens}, Lined.{gates_seen_at, map_changed, mapped, opens_same, was_sent}, Marking.sends, Recorded.request_seen, Slots.spares_slot, SlotTasks.Keeps}}
+use Rattle.exec_invariants.{proofs.{Showing.map_kept, Hearing.hears_so, HoldBeside.Handles, Keys.{names_changed, same_opens}, Lined.{gates_seen_at, map_changed, mapped, opens_same, was_sent}, Marking.sends, Recorded.request_seen, Slots.spares_slot, SlotTasks.Keeps, MailApplies.split_first}, specs.{Gates.at_gate, HoldPlaces.spare_before, Holding.{IsHolding, box_of, holder_of, nap_of, thing_of}, Rooted.{HasHeard, IsResult, IsRooted}, Names.{HasWidth, tellers}, Sound.{IsResting, SoundAt}, Whole.{HasWhole, hands_of, with_worker}, Works.Steps}}
 use Rattle.exec_messages.proofs.{BackEnds.{first_in, first_there, nobody_woken, nil_from_length}, BackHears.{HearsIt, ordinary_there}, BackHolds.thing_sent, BackMarks.{Remade, remade, remade_request}, BackOthers.{OwnTurn, spares_turned, turn_request, whole_answered}, BackPaid.{applied_is, unsent_never, wakes_then}, BackRooted.{ToBeSent, rooted_answered, to_be_sent}, BackSends.{Sends, item_answers, numbers_set, sent_steps}, BackTurns.{Ordinary, Retasked, other_retasked, retasked}}
-use Rattle.exec_invariants.proofs.MailApplies.{split_first}
 
 -- where no other item is left, there is a result
 result_left : (a b c d e : ℕ) → a ≡ 0 → b ≡ 0 → c ≡ 0 → d ≡ 0 → ((a == 0) && (b == 0) && (c == 0) && (d == 0) && (e == 0)) ≡ false → 0 < e

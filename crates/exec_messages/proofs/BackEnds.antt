@@ -1,6 +1,5 @@
 -- The callbacks: the end of a sleeper is sent to its task, which waits elsewhere.
 use Rattle.std.proofs.{Common.{[], ◌≡◌, ℕ, zero, ◌+◌, ◌<◌, ◌≤◌, ◌==◌, ◌||◌, true, false, Contains, List, ◌∷◌, count_by, drop, length, map, Option, Some, nat_lt, refl, sym, ap, subst, ◌∙◌, arith, slice_get, slice_set, if◌then◌else◌}, lemmas.{List.map-set, Option.slice_get_within}}
-pub use Rattle.std.proofs.lemmas.List.{nil_from_length}
 use Rattle.exec_base.specs.declared.task_no.TaskNo.{TaskNo}
 use Rattle.exec_time.specs.declared.notes.ForwardedResult.{ForwardedResult}
 use Rattle.exec_waiters.specs.declared.deferred.Deferred.{Deferred}
@@ -8,10 +7,9 @@ use Rattle.exec_task.specs.declared.body.Said.{Said}
 use Rattle.exec_machine.specs.{Choice.Choice.Plain, declared.{event.Event.{Event, TheVariants.Turn}, state.Forwarding.Forwarding}, Ranges.ring_size, Tests.is_applied}
 use Rattle.exec_moves.specs.{Callback.tells_waiter, declared.{handing.{AfterCallbacks.AfterCallbacks, Heard.Heard}, place.{InCallbacks.InCallbacks, Place.Place}}, Move.move_item, State.Desk, Thing.set_alarms, Told.in_order}
 use Rattle.exec_parts.{specs.{declared.parts.{mail.Reply.Reply, record.Record.Record, shared.Shared.Shared, sleeping.SleeperRecord.SleeperRecord, task_slot.TaskSlot.TaskSlot, worker.Worker.Worker}, Calls.{sleeper_sent, IsTold}, MailTakes.{IsSentEnd, MaySendEnd, SendsEnd}, Spots.Spot, View.{common_of, completions_in, desk_of, driver_of, number_heard, numbers_of_passing, own_of, results_in, things_with}}, proofs.Facts.{and_parts, same_Some, set_there}}
-use Rattle.exec_invariants.proofs.Showing.{map_kept}
-use Rattle.exec_invariants.{specs.{HoldPlaces.spare_before, Holding.{IsHolding, box_of, holder_of, nap_of, thing_of}, Rooted.{HasHeard, IsCompletion, IsRooted, ends_elsewhere}, Names.{HasWidth, tellers}, Sound.SoundAt, Whole.{HasWhole, Profile, hands_of, with_worker}, Works.Steps}, proofs.{Aside.{seats_same, spares_turn}, Hearing.unheard, Lined.mapped, Seen.sleeper_at}}
+use Rattle.exec_invariants.{proofs.{Showing.map_kept, Aside.{seats_same, spares_turn}, Hearing.unheard, Lined.mapped, Seen.sleeper_at, MailApplies.split_first}, specs.{HoldPlaces.spare_before, Holding.{IsHolding, box_of, holder_of, nap_of, thing_of}, Rooted.{HasHeard, IsCompletion, IsRooted, ends_elsewhere}, Names.{HasWidth, tellers}, Sound.SoundAt, Whole.{HasWhole, Profile, hands_of, with_worker}, Works.Steps}}
 use Rattle.exec_messages.proofs.{BackHears.{HearsIt, ordinary_there}, BackHolds.nap_marked, BackMarks.{Remade, SleepsAlike, remade, remade_sleeper}, BackOthers.{OwnTurn, spares_turned, turn_sleeper, whole_sent, with_left}, BackPaid.{applied_is, mine_then, unsent_never, wakes_then}, BackPays.nap_was_sent, BackRooted.{rooted_completed, to_complete}, BackSends.{Sends, item_completes, numbers_set, sent_steps}}
-use Rattle.exec_invariants.proofs.MailApplies.{split_first}
+pub use Rattle.std.proofs.lemmas.List.{nil_from_length}
 
 pub first_there : {A : Type 0} (xs : List A) → 0 < length xs → (x : A) × (slice_get xs 0 ≡ Some x)
 first_there [] some = absurd (omega (arith, some))

@@ -1,13 +1,12 @@
 -- WHAT TASKS HOLD, where a worker pays a wake by what it wakes the task for, or sends the end of a thing to the task that waits
 -- for it elsewhere.
 use Rattle.std.proofs.{Common.{◌≡◌, inl, inr, ⊎_elim, ℕ, ◌+◌, ◌<◌, ◌||◌, true, false, List, length, Option, Some, IsSome, Result, Ok, Err, refl, sym, ap, subst, ◌∙◌, arith, slice_get, slice_set}, lemmas.Bool.false≢true}
-use Rattle.exec_base.specs.{OneShot.sent as sent_into, declared.{error.Error.Error, one_shot.OneShotState.{OneShotState, TheVariants.{Sent}}}}
+use Rattle.exec_base.specs.{OneShot.sent as sent_into, declared.{error.Error.Error, one_shot.OneShotState.{OneShotState, TheVariants.Sent}}}
 use Rattle.exec_request.specs.declared.output.RequestOutput.{RequestOutput}
 use Rattle.exec_machine.specs.{declared.state.Forwarding.TheVariants.Applied, Tests.is_unsent}
 use Rattle.exec_words.specs.declared.inbox.Message.{Message}
-use Rattle.exec_parts.{specs.declared.parts.{held.Held.Held, mail.Subject.Subject}, proofs.Facts.{by_number, same_Some, set_elsewhere, set_there}}
+use Rattle.exec_parts.{specs.declared.parts.{held.Held.Held, mail.Subject.{Subject, Subject as subject}}, proofs.Facts.{by_number, same_Some, set_elsewhere, set_there}}
 use Rattle.exec_invariants.{specs.Holding.{Awaits, AwaitsThing, Box, Hands, HasAnswer, Holder, HoldsRequest, IsAnswerOf, IsDue, IsHeldBy, IsHolding, Nap, NapOwes, Owes, Thing, ThingOwes, holdings, under_way}, proofs.{HoldLets.redone_alone, HoldRedo.holding_redone, HoldSleeps.nap_redone, HoldSteps.{awaits_on, holdings_on, homes_on, waiters_on}}}
-use Rattle.exec_parts.specs.declared.parts.mail.Subject.TheVariants as subject
 
 -- A WAKE IS PAID: of the worker's hands only what it is about to wake changes, and nobody else is owed by the same
 

@@ -1,13 +1,12 @@
 -- The callbacks: the next of the wakes that are left is paid, and its task woken.
 use Rattle.std.proofs.{Common.{◌≡◌, ⊎_elim, ℕ, ◌+◌, ◌<◌, ◌&&◌, ◌||◌, Bool, true, false, not, List, ◌∷◌, drop, map, Option, Some, refl, sym, ap, subst, ◌∙◌, arith, slice_get, slice_set, if◌then◌else◌}, lemmas.{Bool.{false≢true, eq-eqb}, List.map-set}}
 use Rattle.exec_waiters.specs.declared.deferred.Deferred.{Deferred}
-use Rattle.exec_task.specs.{Phases.{is_idle as is_cell_idle, runnable_of}, declared.body.Said.{Said}}
+use Rattle.exec_task.specs.{Phases.{is_idle as is_cell_idle, runnable_of}, declared.body.Said.Said}
 use Rattle.exec_machine.specs.{Choice.{Choice.Pays, Payer, Payer.{ByRequest, BySleeper}}, declared.{event.Event.{Event, TheVariants.Wake}, state.Waiting.Waiting}, Progress.Plan, Ranges.ring_size, Tests.{is_open, is_resolved, is_unsent}, World.{seat_of, task_of}}
 use Rattle.exec_moves.specs.{Callback.{payer_of, woken_by}, declared.{handing.AfterCallbacks.AfterCallbacks, place.{InCallbacks.InCallbacks, Place.Place}}, Move.{move_at, move_item}, State.Desk}
 use Rattle.exec_parts.{specs.{declared.parts.{mail.Reply.Reply, record.Record.Record, shared.Shared.Shared, sleeping.SleeperRecord.SleeperRecord, task_slot.TaskSlot.TaskSlot, worker.Worker.Worker}, Calls.{paying, records_paid, sleeper_paid_in, sleeper_paying, sleepers_paid, IsTold}, MailTakes.{WakesNext, queued_after}, Pooled.woken_slot, Serving.changed_at, Spots.Spot, Tests.next_callback_of, View.{Views, common_of, desk_of, driver_of, own_of, task_seen, things_with}}, proofs.Facts.same_Some}
-use Rattle.exec_invariants.{specs.{HoldPlaces.spare_before, Holding.{Box, IsHolding, IsOwed, NapOwes, Owes, Thing, ThingOwes, MayHave, Nap, awaited_in, box_of, holder_of, nap_of, thing_of}, Names.{HasWidth, tellers}, Sound.SoundAt, Whole.{HasWhole, hands_of, with_worker}, Works.Steps}, proofs.{Lined.{mapped, unmapped}, Marking.pays, Slots.task_there}}
+use Rattle.exec_invariants.{specs.{HoldPlaces.spare_before, Holding.{Box, IsHolding, IsOwed, NapOwes, Owes, Thing, ThingOwes, MayHave, Nap, awaited_in, box_of, holder_of, nap_of, thing_of}, Names.{HasWidth, tellers}, Sound.SoundAt, Whole.{HasWhole, hands_of, with_worker}, Works.Steps}, proofs.{Lined.{mapped, unmapped}, Marking.pays, Slots.task_there, MailApplies.split_first}}
 use Rattle.exec_messages.proofs.{BackHolds.{nap_marked, thing_pays}, BackPaid.{closing_seen, fewer_wakes, fired_either, first_of_three, item_wakes, mine_or_ordinary, neither, rooted_wakes, second_of_three, shut_seen, things_paid, wakes_then, wide_wakes}, BackMarks.{SleepsAlike, remade_request, remade_sleeper}, BackOthers.{turn_request, turn_sleeper, with_left}, BackPays.{PaysBy, SleeperPaysBy, request_after, request_paid, request_things, sleeper_after, sleeper_paid, sleeper_things, some_resolved, unpaid_once}, BackRooted.{rooted_paid, rooted_slept}, BackWakes.{Pays1, woken_steps}, MailOwes.counted_first}
-use Rattle.exec_invariants.proofs.MailApplies.{split_first}
 
 module _ {B L : Type 0} (left : B → L) (spot : L → Option Said → Spot) where
   pub next_woken : (next : AfterCallbacks) (w w' : Worker) (s s' : Shared B) (e : Event) → SoundAt (Place.Callbacks InCallbacks.CallBack next) w s → HasWhole w s → WakesNext next w w' s s' e → Steps left spot w s e w' s'

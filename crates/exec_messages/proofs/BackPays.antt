@@ -1,12 +1,10 @@
 -- The callbacks: what pays a wake. A request or a sleeper of the worker's own that is over, or that nobody holds any more.
-use Rattle.std.{proofs.{Common.{◌≡◌, ℕ, ◌==◌, ◌&&◌, ◌||◌, Bool, true, not, map, Option, Some, is_some, refl, sym, ap, ◌∙◌, slice_get, slice_set}, lemmas.{Bool.{eq-eqb}, List.map-set}}}
-use Rattle.std.proofs.Common.{arith}
+use Rattle.std.proofs.{Common.{◌≡◌, ℕ, ◌==◌, ◌&&◌, ◌||◌, Bool, true, not, map, Option, Some, is_some, refl, sym, ap, ◌∙◌, slice_get, slice_set, arith}, lemmas.{Bool.eq-eqb, List.map-set}}
 use Rattle.exec_task.specs.declared.body.Said.{Said}
 use Rattle.exec_machine.specs.{Choice.Payer.{ByRequest, BySleeper}, declared.state.{Forwarding.Forwarding, RequestPhase.RequestPhase}, Progress.Plan, Same.is_number, Tasks.{after_payment, is_paid, is_unpaid, may_pay, request_owes, sleeper_owes}, Tests.{is_at_large, is_open, is_resolved, is_unsent}, World.{request_of, seat_of, sleeper_of}}
 use Rattle.exec_moves.specs.declared.{handing.AfterCallbacks.AfterCallbacks, place.{InCallbacks.InCallbacks, Place.Place}}
 use Rattle.exec_parts.{specs.{declared.parts.{record.Record.Record, shared.Shared.Shared, sleeping.SleeperRecord.SleeperRecord, worker.Worker.Worker}, Calls.{paying, sleeper_paying}, Records.outcome_in, Serving.changed_at, Spots.Spot, View.{Views, common_of, open_seen, own_of, things_with}}, proofs.Facts.and_from}
-use Rattle.exec_invariants.proofs.Showing.{map_kept}
-use Rattle.exec_invariants.{specs.{Gates.at_gate, Sound.SoundAt, Works.Suits}, proofs.{Lined.{gates_seen_at, map_changed, opens_same, passing_same, was_sent}, Recorded.request_seen, Seeing.common_changed, Seen.sleeper_at}}
+use Rattle.exec_invariants.{proofs.{Showing.map_kept, Lined.{gates_seen_at, map_changed, opens_same, passing_same, was_sent}, Recorded.request_seen, Seeing.common_changed, Seen.sleeper_at}, specs.{Gates.at_gate, Sound.SoundAt, Works.Suits}}
 
 -- NUMBERS of what was sent
 

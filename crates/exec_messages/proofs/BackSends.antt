@@ -1,8 +1,7 @@
 -- The callbacks: the end of a thing is sent to a task that waits for it elsewhere. The whole step, whatever it is the end of.
-use Rattle.std.proofs.{Common.{[], ◌≡◌, ℕ, zero, suc, ◌+◌, ◌<◌, Bool, true, false, not, List, ◌∷◌, Option, Some, None, nat_lt, refl, sym, ap, subst, ◌∙◌, arith, slice_get, slice_set, if◌then◌else◌}}
-use Rattle.std.proofs.lemmas.Bool.{lt-ltb}
+use Rattle.std.proofs.{Common.{[], ◌≡◌, ℕ, zero, suc, ◌+◌, ◌<◌, Bool, true, false, not, List, ◌∷◌, Option, Some, None, nat_lt, refl, sym, ap, subst, ◌∙◌, arith, slice_get, slice_set, if◌then◌else◌}, lemmas.Bool.lt-ltb}
 use Rattle.exec_waiters.specs.declared.deferred.Deferred.{Deferred}
-use Rattle.exec_task.specs.declared.{body.Said.Said}
+use Rattle.exec_task.specs.declared.body.Said.{Said}
 use Rattle.exec_machine.specs.{After.common_after, Choice.Choice.Plain, declared.event.Event.{Event, TheVariants.Turn}, Progress.Plan, Ranges.ring_size, Tests.is_done, World.{Common, Own as Books, task_of}}
 use Rattle.exec_moves.specs.{Callback.{Item.{Answers, Completes}, after_callbacks, has_callbacks, item_next, next_callback, tells_waiter}, declared.{handing.{AfterCallbacks.AfterCallbacks, Heard.Heard}, place.{InCallbacks.InCallbacks, Place.Place}}, Move.move_at, State.Desk, Told.in_order}
 use Rattle.exec_parts.{specs.{declared.parts.{mail.Reply.Reply, shared.Shared.Shared, task_slot.TaskSlot.TaskSlot, worker.Worker.Worker}, MailTakes.after_sending_of, Phased.is_complete, Spots.Spot, Tests.{after_callbacks_of, is_anything_told, next_callback_of}, View.{Views, common_of, completions_in, desk_of, numbers_of_passing, own_of, results_in, things_with, visible, with_view}}, proofs.MailLets.callback_anywhere}

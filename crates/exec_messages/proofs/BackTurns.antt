@@ -2,9 +2,8 @@
 -- to queue a task, or to wake one elsewhere.
 use Rattle.std.proofs.{Common.{◌≡◌, ◌≢◌, inr, ℕ, arith, Bool, true, false, Contains, List, [], length, Option, Some, None, refl, sym, ap, subst, ◌∙◌, slice_get, slice_set, option_to_list, if◌then◌else◌}, lemmas.Bool.false≢true}
 use Rattle.exec_task.specs.{Phases.{is_polled, runnable_of}, declared.runnable.Runnable.Runnable}
-use Rattle.exec_moves.specs.declared.{handing.{AfterCallbacks.AfterCallbacks, AfterPush.AfterPush, Heard.Heard, InGlobal.InGlobal, InPush.InPush}, place.{InCallbacks.InCallbacks, Place.Place}}
+use Rattle.exec_moves.specs.{declared.{handing.{AfterCallbacks.AfterCallbacks, AfterPush.AfterPush, Heard.Heard, InGlobal.InGlobal, InPush.InPush}, place.{InCallbacks.InCallbacks, Place.Place}}, Seen.left_before}
 use Rattle.exec_parts.{specs.{declared.parts.{seat.Seat.Seat as Chair, shared.Shared.Shared, task_slot.TaskSlot.TaskSlot, worker.Worker.Worker}, Phased.{IsPhased, is_complete, stage_of}, Pooled.woken_slot, Roles.is_pool, Tests.first_push_of}, proofs.Facts.{same_Some, set_elsewhere, set_there, true_false}}
-use Rattle.exec_moves.specs.Seen.{left_before}
 use Rattle.exec_invariants.{specs.{Rooted.HasHeard, Sound.{AreHome, AreResting, HasRunnable, IsHeld, IsLoot, IsResting, IsRunnable, SoundAt, Stands, one_of}, Whole.IsGenuine}, proofs.{Flagged.{flag_then, flag_woken, in_flag, of_flag, stands_woken}, Cells.{complete_woken, polled_woken}, SlotTasks.{Keeps, genuine_set, homes_set, none_in, resting_set}, Stirs.{keeps_woken, only, rests_woken}, Turning.{Arrives, GoesOn, sound_on}}}
 
 module _ {B : Type 0} where

@@ -1,6 +1,5 @@
 -- The callbacks: a task is woken, which something pays. The whole step, whatever pays.
-use Rattle.std.proofs.{Common.{[], ◌≡◌, ℕ, ◌==◌, ◌||◌, Bool, true, false, List, map, Option, Some, None, is_some, refl, sym, ap, subst, ◌∙◌, slice_get, slice_set, if◌then◌else◌}, lemmas.{Bool.eq-eqb, List.map-set}}
-use Rattle.std.proofs.Common.{arith}
+use Rattle.std.proofs.{Common.{[], ◌≡◌, ℕ, ◌==◌, ◌||◌, Bool, true, false, List, map, Option, Some, None, is_some, refl, sym, ap, subst, ◌∙◌, slice_get, slice_set, if◌then◌else◌, arith}, lemmas.{Bool.eq-eqb, List.map-set}}
 use Rattle.exec_waiters.specs.declared.deferred.Deferred.{Deferred}
 use Rattle.exec_task.specs.{Phases.{is_idle as is_cell_idle, runnable_of}, declared.{body.Said.Said, runnable.Runnable.Runnable}}
 use Rattle.exec_machine.specs.{Choice.{Choice.Pays, Payer}, declared.{event.Event.{Event, TheVariants.Wake}, state.Next.Next}, Progress.Plan, Ranges.ring_size, Tasks.{after_payment, is_paid, is_woken_here, wake, woken}, Tests.is_idle, World.{Common, Own as Books, Task, task_of}}

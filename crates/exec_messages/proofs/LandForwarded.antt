@@ -4,11 +4,10 @@ use Rattle.exec_words.specs.declared.inbox.Message.{Message}
 use Rattle.exec_base.specs.declared.task_no.TaskNo.{TaskNo}
 use Rattle.exec_task.specs.declared.body.Said.{Said}
 use Rattle.exec_machine.specs.{declared.{event.Event.{Event, TheVariants.Apply}, state.{Forwarding.{Forwarding, TheVariants.Applied}, MailMessage.{MailMessage, TheVariants.ForwardTimer}, Sleeper.Sleeper}}, Tests.{is_applied, is_unsent}, World.sleeper_of}
-use Rattle.exec_moves.specs.{declared.place.{InMail.InMail, Place.Place}, Mail.after_message, State.Desk, Told.{told_of_timer_forward}}
-use Rattle.exec_parts.{specs.{declared.parts.{mail.Subject.Subject, shared.Shared.Shared, sleeping.SleeperRecord.SleeperRecord, worker.Worker.Worker}, Calls.sleeper_applied, MailTakes.TakesForwardTimer, Spots.Spot, View.{common_of, desk_of, driver_of, message_of}}, proofs.Facts.same_Some}
+use Rattle.exec_moves.specs.{declared.place.{InMail.InMail, Place.Place}, Mail.after_message, State.Desk, Told.told_of_timer_forward}
+use Rattle.exec_parts.{specs.{declared.parts.{mail.Subject.{Subject, Subject as subject}, shared.Shared.Shared, sleeping.SleeperRecord.SleeperRecord, worker.Worker.Worker}, Calls.sleeper_applied, MailTakes.TakesForwardTimer, Spots.Spot, View.{common_of, desk_of, driver_of, message_of}}, proofs.Facts.same_Some}
 use Rattle.exec_invariants.{specs.{Due.IsDue, Flown.HasFlown, Holding.{Box, Hands, Holder, IsForwarded, IsHolding, Mail, Nap, Thing, box_of, holder_of, is_sent, mail_in, nap_of, thing_of, under_way}, Sound.{IsMineIn, SoundAt, served_in}, Whole.{HasWhole, hands_of, with_worker}, Works.Steps}, proofs.{HoldMail.{is_never, is_once}, HoldSleeps.nap_redone, Lined.mapped, MailApplies.{AppliedKeeps, one_less, passed_on, rest_of, split_first}, MailApplied.{applied_steps, kept_there, touched}, Seen.sleeper_at, ServingHolds.KeepsSpare, Serving.{SparesRecords, spares_sleeper}}}
 use Rattle.exec_messages.proofs.{LandForwards.{forwarded_desk, forwarded_kept, forwarded_wakes}, MailCancels.{box_open, in_hand_first}}
-use Rattle.exec_parts.specs.declared.parts.mail.Subject.TheVariants as subject
 
 -- WHAT IS TOLD, whatever is left of the batch
 forward_batch : (z : ℕ) (d : Desk) (ms : List MailMessage) → told_of_timer_forward z (record d { batch = ms }) ≡ record (told_of_timer_forward z d) { batch = ms }

@@ -1,8 +1,7 @@
 -- A message of the batch says that a task elsewhere waits for a sleeper: what the worker keeps of it, and what is told.
 use Rattle.std.proofs.{Common.{◌≡◌, ℕ, zero, suc, ◌+◌, ◌^◌, ◌≤◌, ◌<◌, ◌==◌, ◌&&◌, ◌||◌, not, Bool, true, false, Contains, List, [], ◌∷◌, count_by, length, map, set, Option, Some, None, IsSome, Ok, inl, inr, refl, sym, ap, subst, ◌∙◌, arith, slice_get, slice_index_or, slice_set, if◌then◌else◌}, lemmas.{Bool.{false≢true, eq-eqb}, List.{append-nil, length-set, map-append, Elements.Contains-append_cases}}}
 use Rattle.exec_base.{specs.{Slab.{IsPast, Slab, is_live, live_count, value_at, written}, declared.{slab.{Id.Id, Slot.{Slot, TheVariants.Live}}, task_no.TaskNo.TaskNo}}, proofs.Slots.{IsLiveAt-from_value, Updates-write, count-set, live_within, past-write}}
-use Rattle.exec_time.specs.{Notes.Adds, Sleepers.completions_of, declared.{notes.ForwardedResult.ForwardedResult, timers.Sleeper.Sleeper as Sleeping}}
-use Rattle.exec_time.specs.declared.timers.Observer.TheVariants as sleep
+use Rattle.exec_time.specs.{Notes.Adds, Sleepers.completions_of, declared.{notes.ForwardedResult.ForwardedResult, timers.{Sleeper.Sleeper as Sleeping, Observer.Observer as sleep}}}
 use Rattle.exec_machine.specs.Tests.{is_applied, is_asleep}
 use Rattle.exec_moves.specs.{Slots.{is_in_slots, slot_of}, Told.{one_completion, told_of_timer_forward}, declared.handing.Heard.Heard}
 use Rattle.exec_parts.{specs.{declared.parts.{mail.Reply.Reply, names.Names.Names, shared.Shared.Shared, sleeping.SleeperRecord.SleeperRecord, worker.Worker.Worker}, Calls.{sleeper_applied, IsTold}, MailTakes.{TakesForwardTimer, reply_for}, Records.number_in, View.{completions_in, desk_of, driver_of, number_heard, slots_from, slots_seen}}, proofs.Facts.{by_name, by_number, not_same, same_Some, set_elsewhere, set_there}}

@@ -4,12 +4,11 @@ use Rattle.exec_words.specs.declared.inbox.Message.{Message}
 use Rattle.exec_base.specs.{Slab.value_at, declared.task_no.TaskNo.TaskNo}
 use Rattle.exec_time.specs.declared.timers.Sleeper.{Sleeper as Sleeping}
 use Rattle.exec_task.specs.declared.body.Said.{Said}
-use Rattle.exec_machine.specs.{declared.{event.Event.{Event, TheVariants.Apply}, state.{MailMessage.{MailMessage, TheVariants.CancelTimer}, Sleeper.Sleeper}}, Tasks.removed, Tests.{is_unsent}, World.sleeper_of}
-use Rattle.exec_moves.specs.{declared.place.{InMail.InMail, Place.Place}, Mail.after_message, State.Desk, Told.{told_of_cancel}}
-use Rattle.exec_parts.{specs.{declared.parts.{mail.{Reply.Reply, Subject.Subject}, shared.Shared.Shared, sleeping.SleeperRecord.SleeperRecord, worker.Worker.Worker}, Calls.sleeper_removed, MailTakes.RemovesSleeper, Spots.Spot, View.{common_of, desk_of, message_of}}, proofs.Facts.same_Some}
+use Rattle.exec_machine.specs.{declared.{event.Event.{Event, TheVariants.Apply}, state.{MailMessage.{MailMessage, TheVariants.CancelTimer}, Sleeper.Sleeper}}, Tasks.removed, Tests.is_unsent, World.sleeper_of}
+use Rattle.exec_moves.specs.{declared.place.{InMail.InMail, Place.Place}, Mail.after_message, State.Desk, Told.told_of_cancel}
+use Rattle.exec_parts.{specs.{declared.parts.{mail.{Reply.Reply, Subject.{Subject, Subject as subject}}, shared.Shared.Shared, sleeping.SleeperRecord.SleeperRecord, worker.Worker.Worker}, Calls.sleeper_removed, MailTakes.RemovesSleeper, Spots.Spot, View.{common_of, desk_of, message_of}}, proofs.Facts.same_Some}
 use Rattle.exec_invariants.{specs.{Holding.{Box, Hands, Holder, IsForwarded, IsHolding, Mail, Nap, Thing, box_of, holder_of, is_awaited_by, mail_in, nap_of, thing_of, under_way, waiters}, Sound.{IsMineIn, SoundAt}, Whole.{hands_of, with_worker}, Works.Steps}, proofs.{FiringRemoved.{removed_desk, removed_kept}, HoldMail.is_never, HoldSleeps.nap_redone, Lined.mapped, MailApplies.{AppliedKeeps, one_less, passed_on, rest_of, split_first}, MailApplied.{applied_steps, kept_again, kept_there, touched}, Seen.sleeper_at, ServingHolds.KeepsSpare, Serving.{SparesRecords, spares_sleeper}}}
 use Rattle.exec_messages.proofs.MailCancels.{box_open, in_hand_first}
-use Rattle.exec_parts.specs.declared.parts.mail.Subject.TheVariants as subject
 
 -- WHAT IS TOLD, whatever is left of the batch
 

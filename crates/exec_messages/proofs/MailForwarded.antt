@@ -1,15 +1,14 @@
 -- A message of the batch says that a request is waited for elsewhere: that it takes effect is a step.
-use Rattle.std.proofs.{Common.{◌≡◌, ℕ, ◌+◌, ◌-◌, ◌<◌, ◌==◌, Bool, false, Contains, List, [], ◌∷◌, count_by, map, Option, Some, None, Result, Ok, Err, refl, sym, ap, subst, ◌∙◌, arith, slice_get, slice_set, if◌then◌else◌}, lemmas.{List.map-set}}
-use Rattle.exec_base.specs.declared.{error.Error.Error, one_shot.OneShotState.{OneShotState}, task_no.TaskNo.TaskNo}
+use Rattle.std.proofs.{Common.{◌≡◌, ℕ, ◌+◌, ◌-◌, ◌<◌, ◌==◌, Bool, false, Contains, List, [], ◌∷◌, count_by, map, Option, Some, None, Result, Ok, Err, refl, sym, ap, subst, ◌∙◌, arith, slice_get, slice_set, if◌then◌else◌}, lemmas.List.map-set}
+use Rattle.exec_base.specs.declared.{error.Error.Error, one_shot.OneShotState.OneShotState, task_no.TaskNo.TaskNo}
 use Rattle.exec_request.specs.declared.output.RequestOutput.{RequestOutput}
 use Rattle.exec_words.specs.declared.inbox.Message.{Message}
 use Rattle.exec_task.specs.declared.body.Said.{Said}
-use Rattle.exec_machine.specs.{declared.{event.Event.{Event, TheVariants.Apply}, state.{Forwarding.{Forwarding, TheVariants.{Applied, Sent}}, MailMessage.{MailMessage, TheVariants.ForwardRequest}, Request.Request}}, Tests.{is_unsent}, World.request_of}
+use Rattle.exec_machine.specs.{declared.{event.Event.{Event, TheVariants.Apply}, state.{Forwarding.{Forwarding, TheVariants.{Applied, Sent}}, MailMessage.{MailMessage, TheVariants.ForwardRequest}, Request.Request}}, Tests.is_unsent, World.request_of}
 use Rattle.exec_moves.specs.{declared.place.{InMail.InMail, Place.Place}, Mail.after_message, State.Desk, Told.told_of_forward}
-use Rattle.exec_parts.{specs.{declared.parts.{mail.Subject.Subject, record.Record.Record, shared.Shared.Shared, worker.Worker.Worker}, Calls.forward_applied, MailTakes.TakesForward, Serving.{changed_at, changed_in}, Spots.Spot, View.{Visible, common_of, desk_of, message_of, own_of, visible}}, proofs.Facts.same_Some}
+use Rattle.exec_parts.{specs.{declared.parts.{mail.Subject.{Subject, Subject as subject}, record.Record.Record, shared.Shared.Shared, worker.Worker.Worker}, Calls.forward_applied, MailTakes.TakesForward, Serving.{changed_at, changed_in}, Spots.Spot, View.{Visible, common_of, desk_of, message_of, own_of, visible}}, proofs.Facts.same_Some}
 use Rattle.exec_invariants.{specs.{Holding.{Box, Hands, HasAnswer, Holder, IsAnswerOf, IsForwarded, IsHolding, Mail, Nap, Thing, box_of, holder_of, mail_in, nap_of, thing_of, under_way}, Sound.{IsMineIn, SoundAt, served_in}, Whole.{HasWhole, hands_of, with_worker}, Works.Steps}, proofs.{AskBoxes.box_there, HoldLets.redone_alone, HoldMail.{is_never, is_once}, Lined.{SameAtGate, opens_same}, MailApplies.{AppliedKeeps, one_less, passed_on, rest_of, split_first}, MailApplied.{applied_steps, kept_so, kept_there, touched}, Recorded.request_seen, Seeing.common_changed, ServingHolds.KeepsSpare, Serving.{SparesRecords, spares_one}, TaskHears.thing_there}}
-use Rattle.exec_messages.proofs.{MailCancels.{box_open, in_hand_first, same_tasks}, MailForwardEnds.forward_seen, MailForwards.{SeenForward}}
-use Rattle.exec_parts.specs.declared.parts.mail.Subject.TheVariants as subject
+use Rattle.exec_messages.proofs.{MailCancels.{box_open, in_hand_first, same_tasks}, MailForwardEnds.forward_seen, MailForwards.SeenForward}
 
 -- whatever is left of the batch
 forward_batch : (k : ℕ) (it : Request) (d : Desk) (ms : List MailMessage) → told_of_forward k it (record d { batch = ms }) ≡ record (told_of_forward k it d) { batch = ms }

@@ -1,8 +1,7 @@
 -- The first message of the batch can take effect.
 use Rattle.std.proofs.{Common.{◌≡◌, ℕ, ◌^◌, ◌<◌, ◌≤◌, Bool, false, Contains, map, Some, None, refl, sym, ap, subst, ◌∙◌, arith, slice_get}, lemmas.{Bool.false≢true, List.length-map, Option.slice_get_within}}
 use Rattle.exec_base.specs.Slab.{value_at}
-use Rattle.exec_time.specs.{Sleepers.is_forwarded, declared.timers.{Observer.Observer as Watching, Sleeper.Sleeper as Sleeping}}
-use Rattle.exec_time.specs.declared.timers.Observer.TheVariants as sleep
+use Rattle.exec_time.specs.{Sleepers.is_forwarded, declared.timers.{Observer.{Observer as Watching, Observer as sleep}, Sleeper.Sleeper as Sleeping}}
 use Rattle.exec_waiters.specs.Told.{HasPlaces}
 use Rattle.exec_words.specs.declared.inbox.Message.{Message}
 use Rattle.exec_machine.specs.{declared.state.Forwarding.TheVariants.Sent, Tests.{is_applied, is_unsent}}

@@ -1,9 +1,8 @@
 -- A REQUEST'S END GOES ELSEWHERE from now on: what its worker keeps for others then; and all of its own that holds again where it
 -- has nothing of the request any more.
-use Rattle.std.proofs.{Common.{◌≡◌, ◌≢◌, ◌⊎◌, ⊎_elim, ℕ, ◌+◌, ◌≤◌, ◌==◌, Bool, true, false, Contains, List, count_by, Some, None, IsSome, Result, Ok, Err, refl, sym, ap, subst, ◌∙◌, slice_get}, lemmas.Bool.{false≢true, eq-eqb}}
-use Rattle.std.proofs.Common.{arith}
+use Rattle.std.proofs.{Common.{◌≡◌, ◌≢◌, ◌⊎◌, ⊎_elim, ℕ, ◌+◌, ◌≤◌, ◌==◌, Bool, true, false, Contains, List, count_by, Some, None, IsSome, Result, Ok, Err, refl, sym, ap, subst, ◌∙◌, slice_get, arith}, lemmas.Bool.{false≢true, eq-eqb}}
 use Rattle.exec_base.specs.{Slab.{Slab, value_at}, declared.{error.Error.Error, slab.Id.Id}}
-use Rattle.exec_time.specs.declared.{notes.ForwardedResult.ForwardedResult, timers.Sleeper.{Sleeper as Sleeping}}
+use Rattle.exec_time.specs.declared.{notes.ForwardedResult.ForwardedResult, timers.Sleeper.Sleeper as Sleeping}
 use Rattle.exec_request.specs.declared.output.RequestOutput.{RequestOutput}
 use Rattle.exec_waiters.{specs.{States.{waiter_at, waiter_of}, declared.{deferred.{Answer.Answer, Deferred.Deferred}, observer.Observer.TheVariants.Forwarded, waiter.{Entry.TheVariants.Ready, Waiter.Waiter}, waiter_id.WaiterId.WaiterId}}, proofs.Changes.entry_of}
 use Rattle.exec_driver.specs.Driving.{Driving}

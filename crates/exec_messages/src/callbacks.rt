@@ -8,11 +8,9 @@
 //! A wake is paid by what its task waits for: a task waits for one thing at a time, so that is the thing that has ended.
 
 ghost use Rattle.exec_messages.specs.Rooms.{GivesBack};
-ghost use Rattle.exec_parts.specs.declared.parts.record.Record.{Record};
+ghost use Rattle.exec_parts.specs.{declared.parts.record.Record.Record, Calls.{IsUnpaid, KeepsRoom, releasing, IsTold}, MailTakes.{IsSentEnd, IsSentOutput, MaySendEnd, MaySendOutput, MayWakeNext, WakesHearer, WakesNext, WakesWaiter, after_sending_of, queued_after, thing_heard}, Serving.changed_at, Tests.{after_callbacks_of, is_anything_told, leave_of, next_callback_of}};
 ghost use Rattle.exec_invariants.specs.{Sound.SoundAt, Whole.HasWhole, Works.Steps};
-ghost use Rattle.std.specs.Prelude.{◌+◌, ◌<◌, ◌≡◌, ℕ, ◌≤◌, length, drop, slice_get, slice_index_or, Some, if◌then◌else◌};
-ghost use Rattle.std.specs.VecDeque.{deque_capacity, deque_len};
-ghost use Rattle.exec_parts.specs.{Calls.{IsUnpaid, KeepsRoom, releasing, IsTold}, MailTakes.{IsSentEnd, IsSentOutput, MaySendEnd, MaySendOutput, MayWakeNext, WakesHearer, WakesNext, WakesWaiter, after_sending_of, queued_after, thing_heard}, Serving.changed_at, Tests.{after_callbacks_of, is_anything_told, leave_of, next_callback_of}};
+ghost use Rattle.std.specs.{Prelude.{◌+◌, ◌<◌, ◌≡◌, ℕ, ◌≤◌, length, drop, slice_get, slice_index_or, Some, if◌then◌else◌}, VecDeque.{deque_capacity, deque_len}};
 
 use exec_machine::event::Event;
 use exec_machine::state::{Operation, Waiting};

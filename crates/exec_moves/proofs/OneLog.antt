@@ -1,11 +1,7 @@
 -- A trace has one log by moves.
-use Rattle.std.proofs.Common.{◌≡◌, ℕ, zero, suc, Bool, true, false, ◌==◌, if◌then◌else◌, List, [], ◌∷◌, ◌++◌, Option, Some, None, refl, sym, ◌∙◌, ap, subst, inl, inr}
-use Rattle.std.proofs.lemmas.Bool.{true≢false, cases_Bool, and_parts, eqb-true, eq-eqb}
-use Rattle.std.specs.Prelude.{option_and_then}
+use Rattle.std.{proofs.{Common.{◌≡◌, ℕ, zero, suc, Bool, true, false, ◌==◌, if◌then◌else◌, List, [], ◌∷◌, ◌++◌, Option, Some, None, refl, sym, ◌∙◌, ap, subst, inl, inr}, lemmas.Bool.{true≢false, cases_Bool, and_parts, eqb-true, eq-eqb}}, specs.Prelude.option_and_then}
 use Rattle.exec_outcomes.specs.declared.outcome.OpResult.{OpResult, TheVariants.{Count, Errno}}
-use Rattle.exec_machine.specs.{declared.{config.Configuration.Configuration, event.Line.Line, step.{Action.Action, Step.Step}}, Same.same_result, World.own_of, Callers.is_enabled, Run.{same_action, is_refused, after_work, after_steps}, Progress.Plan, Examples.{Told, refuses, lines_of}}
-use Rattle.exec_machine.specs.declared.step.Action.TheVariants as action
-use Rattle.exec_machine.specs.declared.step.Step.TheVariants as step
+use Rattle.exec_machine.specs.{declared.{config.Configuration.Configuration, event.Line.Line, step.{Action.{Action, Action as action}, Step.{Step, Step as step}}}, Same.same_result, World.own_of, Callers.is_enabled, Run.{same_action, is_refused, after_work, after_steps}, Progress.Plan, Examples.{Told, refuses, lines_of}}
 use Rattle.exec_moves.specs.{State.{Things, Moved}, Move.move, Plays.{Playing, Played, first_playing, desk_of, by_move, by_action, by_step, GoesByMoves, Plays, told_with, told_of_work, told_of, log_by_moves}, Departures.{played, Departs}}
 
 -- ACTIONS

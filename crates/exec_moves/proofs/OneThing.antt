@@ -1,31 +1,10 @@
 -- A step touches the one shared thing that its place names.
 use Rattle.std.proofs.{Common.{◌≡◌, ℕ, zero, suc, Bool, true, false, ◌==◌, ◌||◌, List, [], ◌∷◌, ◌++◌, nat_lt, Option, Some, None, refl, sym, ap, subst, ◌∙◌, if◌then◌else◌, slice_set, slice_index_or}, lemmas.{Bool.{true≢false, eq-eqb, eqb-true}, List.get_or-set_other}}
 use Rattle.exec_words.specs.{Idle.Idle, Queue.Queue, declared.word.PureWord.PureWord}
-use Rattle.exec_machine.specs.{declared.{config.{Configuration.Configuration, ScriptWord.ScriptWord}, state.{MailMessage.MailMessage, RequestPhase.RequestPhase}, step.Action.Action}, World.{Common, task_of, request_of, seat_of, Own as Books}, Choice.Choice, Tests.is_empty, Words.next_word}
-use Rattle.exec_machine.specs.declared.config.ScriptWord.TheVariants as script
-use Rattle.exec_machine.specs.declared.state.RequestPhase.TheVariants as phase
-use Rattle.exec_machine.specs.declared.step.Action.TheVariants as action
-use Rattle.exec_moves.specs.{declared.{handing.{AfterCallbacks.AfterCallbacks, AfterKick.AfterKick, AfterPop.AfterPop, AfterPush.AfterPush, AfterSend.AfterSend, AfterSignal.AfterSignal, CallPlace.CallPlace, InGlobal.InGlobal, InKick.InKick, InPop.InPop, InPush.InPush, InSignal.InSignal}, idling.{InLook.InLook, InRingWait.InRingWait, InScan.InScan, InSearch.InSearch, InWordWait.InWordWait, Stay.Stay}, place.{InPick.InPick, InPoll.InPoll, InCallbacks.InCallbacks, InLoads.InLoads, InService.InService, InMail.InMail, InClosing.InClosing, Round.Round, Service.Service, Place.Place}}, State.{Desk, Things, WakePoll, Moved, word_of, no_queue, no_word, no_wake_poll}, Told.{has_number, in_order}, Callback.{Item, Item.{Wakes, LetsGo, Releases, Completes, Answers, Nothing}, item_next}, Poll.{Sight, Sight.{Here, Asks, HearsRequest, HearsTimer}, sight_of, sight_of_act, hear_request, heard_by, hear_timer}, Pick.Queues, Send.{Mailbox, Posting, with_newcomer, leaves_out, published_if, posting_of}, Claim.{Claimed, Claimed.{Worker, Again, Nobody}, claimed, idle_after}, Submit.{Due, Due.{Expires, Enrols, AtGate}}, Submit.due_next, Call.CallDesk, Cells.{Cell, Cell.{RunQueue, Share, WakeWord, Ring as RingOf, Inbox, GlobalQueue, IdleSet, SearchCount, Rest, Shard, Barrier, Gate, Answer, Alarm, Phase}, names, names_at, names_of_item, names_of_due, names_in_act, names_in_callbacks, names_in_closing, names_in_global, names_in_kick, names_in_loads, names_in_look, names_in_mail, names_in_pick, names_in_poll, names_in_ring_wait, names_in_scan, names_in_service, names_in_signal, names_to_wake, names_by_call, names_by_caller, names_to_wake_by_call}, Thing.{mailbox_of, set_queue, set_queues, set_word, set_inbox, set_mailbox, set_wake_poll, set_global, set_idle, set_barrier, set_shard, set_gate, set_answers, set_alarms}, Touches.OnlyTouches, Move.{move, move_at, move_act, move_wake, move_pick, move_pop, move_push, move_global, move_kick, move_signal, move_look_at, move_item, move_callbacks, move_poll, move_loads, move_submit, move_service, move_mail, move_search, move_scan, move_look, move_ring_wait, move_word_wait, move_closing}, MoveOfCaller.{move_of_caller, call_wake, call_on, call_global, call_signal}}
-use Rattle.exec_moves.specs.declared.handing.AfterSend.TheVariants as send
-use Rattle.exec_moves.specs.declared.handing.CallPlace.TheVariants as call
+use Rattle.exec_machine.specs.{declared.{config.{Configuration.Configuration, ScriptWord.{ScriptWord, ScriptWord as script}}, state.{MailMessage.MailMessage, RequestPhase.{RequestPhase, RequestPhase as phase}}, step.Action.{Action, Action as action}}, World.{Common, task_of, request_of, seat_of, Own as Books}, Choice.Choice, Tests.is_empty, Words.next_word}
+use Rattle.exec_moves.specs.{declared.{handing.{AfterCallbacks.AfterCallbacks, AfterKick.AfterKick, AfterPop.AfterPop, AfterPush.AfterPush, AfterSend.{AfterSend, AfterSend as send}, AfterSignal.AfterSignal, CallPlace.{CallPlace, CallPlace as call}, InGlobal.InGlobal, InKick.{InKick, InKick as kick}, InPop.{InPop, InPop as pop}, InPush.{InPush, InPush as push}, InSignal.{InSignal, InSignal as signals}}, idling.{InLook.{InLook, InLook as look}, InRingWait.InRingWait, InScan.{InScan, InScan as scan}, InSearch.{InSearch, InSearch as search_at}, InWordWait.{InWordWait, InWordWait as word}, Stay.Stay}, place.{InPick.{InPick, InPick as pick}, InPoll.{InPoll, InPoll as poll}, InCallbacks.{InCallbacks, InCallbacks as callback}, InLoads.{InLoads, InLoads as load}, InService.{InService, InService as step}, InMail.{InMail, InMail as mail}, InClosing.{InClosing, InClosing as closing}, Round.Round, Service.Service, Place.{Place, Place as at}}}, State.{Desk, Things, WakePoll, Moved, word_of, no_queue, no_word, no_wake_poll}, Told.{has_number, in_order}, Callback.{Item, Item.{Wakes, LetsGo, Releases, Completes, Answers, Nothing}, item_next}, Poll.{Sight, Sight.{Here, Asks, HearsRequest, HearsTimer}, sight_of, sight_of_act, hear_request, heard_by, hear_timer}, Pick.Queues, Send.{Mailbox, Posting, with_newcomer, leaves_out, published_if, posting_of}, Claim.{Claimed, Claimed.{Worker, Again, Nobody}, claimed, idle_after}, Submit.{Due, Due.{Expires, Enrols, AtGate}, due_next}, Call.CallDesk, Cells.{Cell, Cell.{RunQueue, Share, WakeWord, Ring as RingOf, Inbox, GlobalQueue, IdleSet, SearchCount, Rest, Shard, Barrier, Gate, Answer, Alarm, Phase}, names, names_at, names_of_item, names_of_due, names_in_act, names_in_callbacks, names_in_closing, names_in_global, names_in_kick, names_in_loads, names_in_look, names_in_mail, names_in_pick, names_in_poll, names_in_ring_wait, names_in_scan, names_in_service, names_in_signal, names_to_wake, names_by_call, names_by_caller, names_to_wake_by_call}, Thing.{mailbox_of, set_queue, set_queues, set_word, set_inbox, set_mailbox, set_wake_poll, set_global, set_idle, set_barrier, set_shard, set_gate, set_answers, set_alarms}, Touches.OnlyTouches, Move.{move, move_at, move_act, move_wake, move_pick, move_pop, move_push, move_global, move_kick, move_signal, move_look_at, move_item, move_callbacks, move_poll, move_loads, move_submit, move_service, move_mail, move_search, move_scan, move_look, move_ring_wait, move_word_wait, move_closing}, MoveOfCaller.{move_of_caller, call_wake, call_on, call_global, call_signal}}
 use Rattle.exec_moves.specs.declared.handing.InGlobal.TheVariants as global
-use Rattle.exec_moves.specs.declared.handing.InKick.TheVariants as kick
-use Rattle.exec_moves.specs.declared.handing.InPop.TheVariants as pop
-use Rattle.exec_moves.specs.declared.handing.InPush.TheVariants as push
-use Rattle.exec_moves.specs.declared.handing.InSignal.TheVariants as signals
-use Rattle.exec_moves.specs.declared.idling.InLook.TheVariants as look
 use Rattle.exec_moves.specs.declared.idling.InRingWait.TheVariants as ring
-use Rattle.exec_moves.specs.declared.idling.InScan.TheVariants as scan
-use Rattle.exec_moves.specs.declared.idling.InSearch.TheVariants as search_at
-use Rattle.exec_moves.specs.declared.idling.InWordWait.TheVariants as word
-use Rattle.exec_moves.specs.declared.place.InPick.TheVariants as pick
-use Rattle.exec_moves.specs.declared.place.InPoll.TheVariants as poll
-use Rattle.exec_moves.specs.declared.place.InCallbacks.TheVariants as callback
-use Rattle.exec_moves.specs.declared.place.InLoads.TheVariants as load
-use Rattle.exec_moves.specs.declared.place.InService.TheVariants as step
-use Rattle.exec_moves.specs.declared.place.InMail.TheVariants as mail
-use Rattle.exec_moves.specs.declared.place.InClosing.TheVariants as closing
-use Rattle.exec_moves.specs.declared.place.Place.TheVariants as at
 
 -- EACH THING PUT BACK
 

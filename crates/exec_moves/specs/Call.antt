@@ -4,10 +4,7 @@
 use Rattle.std.specs.Prelude.{ℕ, Bool, true, false, ◌==◌, List, Option, Some, None, if◌then◌else◌}
 use Rattle.exec_words.specs.{declared.{idle.WorkerSet.WorkerSet, word.PureWord.PureWord}, Idle.Idle, Word.asks_signal}
 use Rattle.exec_machine.specs.{declared.event.Event.{Event, TheVariants.{Turn, Wake, Return}}, Choice.{Choice, Choice.{Plain, Pays}, Payer.ByCall}, World.{Task, Common}, Tests.is_idle}
-use Rattle.exec_moves.specs.{declared.handing.{CallPlace.CallPlace}, State.{WakePoll, Own}, Push.in_hand, Claim.{Claimed, Claimed.{Worker, Again, Nobody}, claimed, idle_after, set_of, is_ring, latched, raised_if, rousing}, Global.{appended_if, has_any, one_count_more, one_count_less}, Send.{next_task, told_of_spawn, joined, Mailbox, Posting, posting}}
-use Rattle.exec_moves.specs.declared.handing.CallPlace.TheVariants as call
-use Rattle.exec_moves.specs.declared.handing.InGlobal.TheVariants as global
-use Rattle.exec_moves.specs.declared.handing.InSignal.TheVariants as signals
+use Rattle.exec_moves.specs.{declared.handing.{CallPlace.{CallPlace, CallPlace as call}, InGlobal.InGlobal as global, InSignal.InSignal as signals}, State.{WakePoll, Own}, Push.in_hand, Claim.{Claimed, Claimed.{Worker, Again, Nobody}, claimed, idle_after, set_of, is_ring, latched, raised_if, rousing}, Global.{appended_if, has_any, one_count_more, one_count_less}, Send.{next_task, told_of_spawn, joined, Mailbox, Posting, posting}}
 
 -- what only the caller touches: where it is, and the runnable in its hand
 pub record CallDesk : Type 0 where

@@ -1,24 +1,8 @@
 -- Moves of the callbacks: what is left to be told and let go, one item a step.
-use Rattle.std.specs.Prelude.{ℕ, Bool, false, not, ◌-◌, ◌==◌, ◌&&◌, ◌||◌, List, [], ◌∷◌, drop, nat_lt, Option, Some, None, if◌then◌else◌}
-use Rattle.std.specs.List.{list_any}
-use Rattle.exec_machine.specs.{declared.{event.Event.TheVariants.{Turn, Wake, Release}, state.Waiting.Waiting}, Choice.{Choice, Choice.{Plain, Pays}, Payer.{ByRequest, BySleeper}}, World.{Task, Common, seat_of, task_of, request_of, sleeper_of, Own as Books}, Tests.{is_empty, is_idle, is_done, is_resolved}}
-use Rattle.exec_machine.specs.declared.state.Waiting.TheVariants as waiting
-use Rattle.exec_moves.specs.{declared.{handing.{AfterCallbacks.AfterCallbacks, AfterPush.AfterPush, Heard.Heard}, idling.Stay.Stay, place.{AfterService.AfterService, Round.Round, Place.Place}}, State.{Desk, Moved, Own, turns, does, goes}, Told.in_order}
-use Rattle.exec_moves.specs.declared.handing.AfterCallbacks.TheVariants as after
-use Rattle.exec_moves.specs.declared.handing.AfterLeave.TheVariants as leave
-use Rattle.exec_moves.specs.declared.handing.AfterPush.TheVariants as push
-use Rattle.exec_moves.specs.declared.handing.Heard.TheVariants as heard
-use Rattle.exec_moves.specs.declared.handing.InGlobal.TheVariants as global
-use Rattle.exec_moves.specs.declared.handing.InPush.TheVariants as pushes
+use Rattle.std.specs.{Prelude.{ℕ, Bool, false, not, ◌-◌, ◌==◌, ◌&&◌, ◌||◌, List, [], ◌∷◌, drop, nat_lt, Option, Some, None, if◌then◌else◌}, List.list_any}
+use Rattle.exec_machine.specs.{declared.{event.Event.TheVariants.{Turn, Wake, Release}, state.Waiting.{Waiting, Waiting as waiting}}, Choice.{Choice, Choice.{Plain, Pays}, Payer.{ByRequest, BySleeper}}, World.{Task, Common, seat_of, task_of, request_of, sleeper_of, Own as Books}, Tests.{is_empty, is_idle, is_done, is_resolved}}
+use Rattle.exec_moves.specs.{declared.{handing.{AfterCallbacks.{AfterCallbacks, AfterCallbacks as after}, AfterPush.{AfterPush, AfterPush as push}, Heard.{Heard, Heard as heard}, AfterLeave.AfterLeave as leave, InGlobal.InGlobal as global, InPush.InPush as pushes}, idling.{Stay.{Stay, Stay as stay}, InRingWait.InRingWait as ring}, place.{AfterService.AfterService, Round.{Round, Round as round}, Place.{Place, Place as at}, InCallbacks.InCallbacks as callback, InClosing.InClosing as closing, InLoads.InLoads as load, InService.InService as service}}, State.{Desk, Moved, Own, turns, does, goes}, Told.in_order}
 use Rattle.exec_moves.specs.declared.place.AfterService.TheVariants as back
-use Rattle.exec_moves.specs.declared.place.InCallbacks.TheVariants as callback
-use Rattle.exec_moves.specs.declared.place.InClosing.TheVariants as closing
-use Rattle.exec_moves.specs.declared.place.InLoads.TheVariants as load
-use Rattle.exec_moves.specs.declared.idling.InRingWait.TheVariants as ring
-use Rattle.exec_moves.specs.declared.place.InService.TheVariants as service
-use Rattle.exec_moves.specs.declared.place.Round.TheVariants as round
-use Rattle.exec_moves.specs.declared.idling.Stay.TheVariants as stay
-use Rattle.exec_moves.specs.declared.place.Place.TheVariants as at
 
 -- WHERE THE CALLBACKS LEAD
 

@@ -1,24 +1,8 @@
 -- Which one shared thing each place names.
 use Rattle.std.specs.Prelude.{ℕ, ◌%◌, ◌==◌, length, Option, Some, None, if◌then◌else◌}
-use Rattle.exec_machine.specs.{declared.{config.{Configuration.Configuration, ScriptWord.ScriptWord}, step.Action.Action}, World.{Common, task_of, request_of, Own as Books}, Words.next_word}
-use Rattle.exec_machine.specs.declared.config.ScriptWord.TheVariants as word
-use Rattle.exec_machine.specs.declared.step.Action.TheVariants as action
-use Rattle.exec_moves.specs.{declared.{handing.{InGlobal.InGlobal, InKick.InKick, InSignal.InSignal, CallPlace.CallPlace}, idling.{InLook.InLook, InRingWait.InRingWait, InScan.InScan}, place.{InPick.InPick, InPoll.InPoll, InCallbacks.InCallbacks, InLoads.InLoads, InService.InService, InMail.InMail, InClosing.InClosing, Place.Place}}, State.Desk, Pop.shard_count, Search.from_of, Callback.{Item, Item.{Wakes, Completes, Answers}, item_next}, Submit.{Due, Due.AtGate, due_next}, Send.first_letter, Poll.{Sight, Sight.{Here, Asks, HearsRequest, HearsTimer}, sight_of, sight_of_act}}
-use Rattle.exec_moves.specs.declared.handing.CallPlace.TheVariants as call
-use Rattle.exec_moves.specs.declared.handing.InGlobal.TheVariants as global
-use Rattle.exec_moves.specs.declared.handing.InKick.TheVariants as kick
-use Rattle.exec_moves.specs.declared.handing.InSignal.TheVariants as signal
-use Rattle.exec_moves.specs.declared.idling.InScan.TheVariants as scan
-use Rattle.exec_moves.specs.declared.place.InPick.TheVariants as pick
-use Rattle.exec_moves.specs.declared.place.InPoll.TheVariants as poll
-use Rattle.exec_moves.specs.declared.place.InCallbacks.TheVariants as callback
-use Rattle.exec_moves.specs.declared.place.InLoads.TheVariants as load
-use Rattle.exec_moves.specs.declared.place.InService.TheVariants as step
-use Rattle.exec_moves.specs.declared.place.InMail.TheVariants as mail
-use Rattle.exec_moves.specs.declared.idling.InLook.TheVariants as look
+use Rattle.exec_machine.specs.{declared.{config.{Configuration.Configuration, ScriptWord.{ScriptWord, ScriptWord as word}}, step.Action.{Action, Action as action}}, World.{Common, task_of, request_of, Own as Books}, Words.next_word}
+use Rattle.exec_moves.specs.{declared.{handing.{InGlobal.{InGlobal, InGlobal as global}, InKick.{InKick, InKick as kick}, InSignal.{InSignal, InSignal as signal}, CallPlace.{CallPlace, CallPlace as call}}, idling.{InLook.{InLook, InLook as look}, InRingWait.InRingWait, InScan.{InScan, InScan as scan}}, place.{InPick.{InPick, InPick as pick}, InPoll.{InPoll, InPoll as poll}, InCallbacks.{InCallbacks, InCallbacks as callback}, InLoads.{InLoads, InLoads as load}, InService.{InService, InService as step}, InMail.{InMail, InMail as mail}, InClosing.{InClosing, InClosing as closing}, Place.{Place, Place as at}}}, State.Desk, Pop.shard_count, Search.from_of, Callback.{Item, Item.{Wakes, Completes, Answers}, item_next}, Submit.{Due, Due.AtGate, due_next}, Send.first_letter, Poll.{Sight, Sight.{Here, Asks, HearsRequest, HearsTimer}, sight_of, sight_of_act}}
 use Rattle.exec_moves.specs.declared.idling.InRingWait.TheVariants as ring
-use Rattle.exec_moves.specs.declared.place.InClosing.TheVariants as closing
-use Rattle.exec_moves.specs.declared.place.Place.TheVariants as at
 
 -- What several parties touch. The global queue goes with its mirror, the inbox with the batch that it publishes in the wake
 -- word.

@@ -3,16 +3,9 @@
 -- A claim exchanges the idle set for one without its lowest worker. A signal puts the latch into the wake word of a worker;
 -- where that waits, and nobody has signalled it before, its wait is ended by a second step.
 use Rattle.std.specs.Prelude.{ℕ, Bool, true, false, List, [], ◌∷◌, slice_set, Option, Some, None, if◌then◌else◌}
-use Rattle.exec_words.specs.{declared.{idle.WorkerSet.WorkerSet, word.{PureWord.PureWord, WaitTarget.WaitTarget}}, Idle.{Idle, lowest_of}, Word.asks_signal}
-use Rattle.exec_words.specs.declared.word.WaitTarget.TheVariants as target
+use Rattle.exec_words.specs.{declared.{idle.WorkerSet.WorkerSet, word.{PureWord.PureWord, WaitTarget.{WaitTarget, WaitTarget as target}}}, Idle.{Idle, lowest_of}, Word.asks_signal}
 use Rattle.exec_machine.specs.{declared.{config.Configuration.Configuration, event.Event.{Event, TheVariants.{Turn, Rouse}}}, World.{Common, seat_of, Own as Books}, Tests.is_awake}
-use Rattle.exec_moves.specs.{declared.{handing.{AfterClaim.AfterClaim, AfterSignal.AfterSignal}, place.Place.Place}, State.{WakePoll, Desk, Moved, does, turns, goes, raised}, Parts.after_signal}
-use Rattle.exec_moves.specs.declared.handing.AfterClaim.TheVariants as claim
-use Rattle.exec_moves.specs.declared.handing.AfterSignal.TheVariants as signal
-use Rattle.exec_moves.specs.declared.handing.InGlobal.TheVariants as global
-use Rattle.exec_moves.specs.declared.handing.InKick.TheVariants as kicks
-use Rattle.exec_moves.specs.declared.handing.InSignal.TheVariants as signals
-use Rattle.exec_moves.specs.declared.place.Place.TheVariants as at
+use Rattle.exec_moves.specs.{declared.{handing.{AfterClaim.{AfterClaim, AfterClaim as claim}, AfterSignal.{AfterSignal, AfterSignal as signal}, InGlobal.InGlobal as global, InKick.InKick as kicks, InSignal.InSignal as signals}, place.Place.{Place, Place as at}}, State.{WakePoll, Desk, Moved, does, turns, goes, raised}, Parts.after_signal}
 
 -- CLAIM
 

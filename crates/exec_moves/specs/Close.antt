@@ -3,13 +3,7 @@ use Rattle.std.specs.Prelude.{ℕ, Bool, true, not, ◌-◌, ◌==◌, ◌&&◌,
 use Rattle.exec_words.specs.Word.{next_batch}
 use Rattle.exec_task.specs.{declared.drain.Drain.Drain, TaskSet.passed}
 use Rattle.exec_machine.specs.{declared.{config.Configuration.Configuration, event.Event.TheVariants.{Turn, Close, Stop, Clear, Orphan, End}, state.{MailMessage.MailMessage, Request.Request}}, Choice.Choice.Passes, World.{Common, Task, request_of, sleeper_of}, Tests.{is_asleep, is_empty}, Requests.outcome_of_drop, Closing.ends_by_clear}
-use Rattle.exec_moves.specs.declared.handing.AfterCallbacks.TheVariants as after
-use Rattle.exec_moves.specs.declared.handing.AfterCancels.TheVariants as cancels
-use Rattle.exec_moves.specs.declared.handing.AfterPop.TheVariants as pop
-use Rattle.exec_moves.specs.declared.place.InCallbacks.TheVariants as callback
-use Rattle.exec_moves.specs.{declared.place.{InClosing.InClosing, Place.Place}, State.{Desk, Moved, Own, turns, does, goes}, Slots.first_in, Callback.is_of_pool, Told.{told_of_drop, told_of_fire, woken_where_awaited, lets_go_all}, Parts.{first_pop, tells_from, after_visit, cancels_left}}
-use Rattle.exec_moves.specs.declared.place.InClosing.TheVariants as closing
-use Rattle.exec_moves.specs.declared.place.Place.TheVariants as at
+use Rattle.exec_moves.specs.{declared.{handing.{AfterCallbacks.AfterCallbacks as after, AfterCancels.AfterCancels as cancels, AfterPop.AfterPop as pop}, place.{InCallbacks.InCallbacks as callback, InClosing.{InClosing, InClosing as closing}, Place.{Place, Place as at}}}, State.{Desk, Moved, Own, turns, does, goes}, Slots.first_in, Callback.is_of_pool, Told.{told_of_drop, told_of_fire, woken_where_awaited, lets_go_all}, Parts.{first_pop, tells_from, after_visit, cancels_left}}
 
 -- Worker zero closes what is the pool's, and stops it; another worker of the pool closes only once it is stopped. A
 -- dedicated one has nothing of the pool.

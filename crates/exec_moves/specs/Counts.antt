@@ -1,6 +1,5 @@
 -- How many of a list pass a test, and at how many gates a worker has requests.
-use Rattle.std.specs.Prelude.{ℕ, suc, Bool, true, false, ◌+◌, ◌&&◌, List, [], ◌∷◌, nat_le}
-use Rattle.std.specs.List.{list_any}
+use Rattle.std.specs.{Prelude.{ℕ, suc, Bool, true, false, ◌+◌, ◌&&◌, List, [], ◌∷◌, nat_le}, List.list_any}
 use Rattle.exec_machine.specs.World.{Common}
 use Rattle.exec_moves.specs.Submit.{waits_at}
 

@@ -1,9 +1,6 @@
 -- Lines that no log by moves has, though the machine may allow them.
 use Rattle.std.specs.Prelude.{◌≡◌, List, [], ◌∷◌, ◌++◌}
-use Rattle.exec_machine.specs.{declared.{config.Configuration.Configuration, step.Step.Step}, Progress.Plan, Examples.{Told, usual}}
-use Rattle.exec_machine.specs.declared.config.ScriptWord.TheVariants as word
-use Rattle.exec_machine.specs.declared.step.Action.TheVariants as action
-use Rattle.exec_machine.specs.declared.step.Step.TheVariants as step
+use Rattle.exec_machine.specs.{declared.{config.{Configuration.Configuration, ScriptWord.ScriptWord as word}, step.{Step.{Step, Step as step}, Action.Action as action}}, Progress.Plan, Examples.{Told, usual}}
 use Rattle.exec_moves.specs.Plays.{Playing, first_playing, by_step, Plays, log_by_moves}
 
 -- where the executor is after these lines

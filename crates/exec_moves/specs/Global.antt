@@ -4,10 +4,7 @@
 use Rattle.std.specs.Prelude.{ℕ, Bool, true, false, ◌+◌, ◌-◌, ◌==◌, ◌++◌, List, [], Option, Some, None, if◌then◌else◌}
 use Rattle.exec_words.specs.{declared.idle.WorkerSet.WorkerSet, Idle.{Idle, lowest_of}}
 use Rattle.exec_machine.specs.{declared.config.Configuration.Configuration, World.{Common, Own as Books}}
-use Rattle.exec_moves.specs.{declared.{handing.AfterPush.AfterPush}, State.{Desk, Moved, turns}, Parts.after_push, Push.in_hand, Claim.set_of}
-use Rattle.exec_moves.specs.declared.handing.AfterClaim.TheVariants as claim
-use Rattle.exec_moves.specs.declared.handing.InGlobal.TheVariants as step
-use Rattle.exec_moves.specs.declared.place.Place.TheVariants as at
+use Rattle.exec_moves.specs.{declared.{handing.{AfterPush.AfterPush, AfterClaim.AfterClaim as claim, InGlobal.InGlobal as step}, place.Place.Place as at}, State.{Desk, Moved, turns}, Parts.after_push, Push.in_hand, Claim.set_of}
 
 -- nothing is in its hands any more
 abbrev pub empty_handed : Desk → Desk

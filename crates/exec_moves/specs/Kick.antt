@@ -4,10 +4,7 @@
 use Rattle.std.specs.Prelude.{ℕ, false, ◌==◌, if◌then◌else◌}
 use Rattle.exec_words.specs.{declared.idle.WorkerSet.WorkerSet, Idle.Idle}
 use Rattle.exec_machine.specs.{declared.config.Configuration.Configuration, World.{Common, Own as Books}}
-use Rattle.exec_moves.specs.{declared.handing.{AfterKick.AfterKick, AfterLeave.AfterLeave}, State.{Desk, Moved, turns}, Parts.{after_kick, after_return}, Claim.set_of, Global.{has_any, one_count_more, one_count_less}}
-use Rattle.exec_moves.specs.declared.handing.AfterClaim.TheVariants as claim
-use Rattle.exec_moves.specs.declared.handing.InKick.TheVariants as step
-use Rattle.exec_moves.specs.declared.place.Place.TheVariants as at
+use Rattle.exec_moves.specs.{declared.{handing.{AfterKick.AfterKick, AfterLeave.AfterLeave, AfterClaim.AfterClaim as claim, InKick.InKick as step}, place.Place.Place as at}, State.{Desk, Moved, turns}, Parts.{after_kick, after_return}, Claim.set_of, Global.{has_any, one_count_more, one_count_less}}
 
 -- it holds no search count any more
 abbrev pub unsearching : Desk → Desk

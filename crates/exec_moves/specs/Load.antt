@@ -2,13 +2,8 @@
 use Rattle.std.specs.Prelude.{ℕ, Bool, false, not, ◌==◌, ◌&&◌, ◌||◌, List, nat_le, nat_lt, Option, Some, None, if◌then◌else◌}
 use Rattle.exec_words.specs.{Queue.Queue, declared.word.PureWord.PureWord}
 use Rattle.exec_machine.specs.{declared.config.Configuration.Configuration, Ranges.ring_size, Tests.is_empty, World.{Common, Own as Books}}
-use Rattle.exec_moves.specs.{declared.place.{Found.Found, Round.Round, Place.Place}, State.{Desk, Moved, Own, turns}, Callback.{has_callbacks, has_requests, serve}}
+use Rattle.exec_moves.specs.{declared.{place.{Found.Found, Round.{Round, Round as round}, Place.{Place, Place as at}, InLoads.InLoads as load, InService.InService as service}, handing.AfterLeave.AfterLeave as leave}, State.{Desk, Moved, Own, turns}, Callback.{has_callbacks, has_requests, serve}}
 use Rattle.exec_moves.specs.declared.place.AfterService.TheVariants as back
-use Rattle.exec_moves.specs.declared.place.InLoads.TheVariants as load
-use Rattle.exec_moves.specs.declared.handing.AfterLeave.TheVariants as leave
-use Rattle.exec_moves.specs.declared.place.InService.TheVariants as service
-use Rattle.exec_moves.specs.declared.place.Round.TheVariants as round
-use Rattle.exec_moves.specs.declared.place.Place.TheVariants as at
 
 -- with one more thing that may be ready
 abbrev pub found_also : Found → Bool → Found

@@ -2,13 +2,7 @@
 use Rattle.std.specs.Prelude.{ℕ, Bool, true, false, not, ◌+◌, ◌==◌, ◌||◌, List, [], ◌∷◌, nat_lt, slice_set, if◌then◌else◌}
 use Rattle.exec_words.specs.{declared.head.Head.Head, Head.is_stealable_at, Idle.{Idle, is_in}, Queue.{Queue, head_of, tail_of}}
 use Rattle.exec_machine.specs.{declared.config.Configuration.Configuration, World.{Common, Own as Books}}
-use Rattle.exec_moves.specs.{declared.{idling.AfterWait.AfterWait, place.Place.Place}, State.{Desk, Moved, turns}, Callback.serve, Load.leaves_for_turn, Parts.after_return, Global.{one_count_more, one_count_less}, Kick.unsearching, Wait.waits}
-use Rattle.exec_moves.specs.declared.handing.AfterLeave.TheVariants as leave
-use Rattle.exec_moves.specs.declared.idling.AfterWait.TheVariants as next
-use Rattle.exec_moves.specs.declared.idling.InLook.TheVariants as look
-use Rattle.exec_moves.specs.declared.idling.InScan.TheVariants as scan
-use Rattle.exec_moves.specs.declared.place.AfterService.TheVariants as back
-use Rattle.exec_moves.specs.declared.place.Place.TheVariants as at
+use Rattle.exec_moves.specs.{declared.{idling.{AfterWait.{AfterWait, AfterWait as next}, InLook.InLook as look, InScan.InScan as scan}, place.{Place.{Place, Place as at}, AfterService.AfterService as back}, handing.AfterLeave.AfterLeave as leave}, State.{Desk, Moved, turns}, Callback.serve, Load.leaves_for_turn, Parts.after_return, Global.{one_count_more, one_count_less}, Kick.unsearching, Wait.waits}
 
 -- THE LOOK
 

@@ -1,13 +1,8 @@
 -- Moves at the mailbox.
 use Rattle.std.specs.Prelude.{ℕ, true, ◌+◌, ◌||◌, List, [], ◌∷◌, nat_le, if◌then◌else◌}
 use Rattle.exec_words.specs.{Word.next_batch, declared.word.PureWord.PureWord}
-use Rattle.exec_machine.specs.{declared.{event.Event.TheVariants.Apply, state.MailMessage.MailMessage}, World.{Common, request_of, sleeper_of, task_of}, Tests.is_empty}
-use Rattle.exec_machine.specs.declared.state.MailMessage.TheVariants as message
-use Rattle.exec_moves.specs.declared.handing.AfterCallbacks.TheVariants as after
-use Rattle.exec_moves.specs.declared.place.InCallbacks.TheVariants as callback
-use Rattle.exec_moves.specs.declared.place.InMail.TheVariants as mail
-use Rattle.exec_moves.specs.{declared.place.Place.Place, State.{Desk, Moved, Own, turns, does}, Load.has_mail, Callback.flagged_by, Told.{told_of_drop, told_of_forward, told_of_cancel, told_of_timer_forward}}
-use Rattle.exec_moves.specs.declared.place.Place.TheVariants as at
+use Rattle.exec_machine.specs.{declared.{event.Event.TheVariants.Apply, state.MailMessage.{MailMessage, MailMessage as message}}, World.{Common, request_of, sleeper_of, task_of}, Tests.is_empty}
+use Rattle.exec_moves.specs.{declared.{handing.AfterCallbacks.AfterCallbacks as after, place.{InCallbacks.InCallbacks as callback, InMail.InMail as mail, Place.{Place, Place as at}}}, State.{Desk, Moved, Own, turns, does}, Load.has_mail, Callback.flagged_by, Told.{told_of_drop, told_of_forward, told_of_cancel, told_of_timer_forward}}
 
 abbrev pub to_callbacks : Place
 to_callbacks = at.Callbacks callback.TakeBatch after.Test

@@ -1,27 +1,9 @@
 -- The move of a worker at each place.
 use Rattle.std.specs.Prelude.{ℕ, [], ◌+◌, ◌==◌, slice_index_or, Option, Some, None, if◌then◌else◌}
-use Rattle.exec_machine.specs.{declared.config.{Configuration.Configuration, ScriptWord.ScriptWord}, Ranges.ring_size, World.{Common, task_of, request_of, Own as Books}, Words.next_word}
-use Rattle.exec_machine.specs.declared.config.ScriptWord.TheVariants as script
-use Rattle.exec_moves.specs.{declared.{handing.{AfterCallbacks.AfterCallbacks, AfterKick.AfterKick, AfterPop.AfterPop, AfterPush.AfterPush, AfterSend.AfterSend, AfterSignal.AfterSignal, InGlobal.InGlobal, InKick.InKick, InPop.InPop, InPush.InPush, InSignal.InSignal}, idling.{InLook.InLook, InRingWait.InRingWait, InScan.InScan, InSearch.InSearch, InWordWait.InWordWait, Stay.Stay}, place.{InPick.InPick, InPoll.InPoll, InCallbacks.InCallbacks, InLoads.InLoads, InService.InService, InMail.InMail, InClosing.InClosing, Round.Round, Service.Service, Place.Place}}, State.{Desk, Things, Moved, queue_of, word_of, inbox_of, wake_poll_of, gate_of}, Thing.{aside, with_queue, with_word, with_inbox, with_mailbox, with_wake_poll, with_ring, with_global, with_queues, with_idle, with_barrier, with_shard, with_gate, with_answers, with_alarms, mailbox_of, ring_of}, Pick.{begin_turn, count_down, load_mirror, load_head, take_share, take_root_flag}, Pop.{shard_count, pops, load_pop_head, exchange_pop}, Push.{load_push_head, store_value, flow_over, store_oldest}, Global.{append, load_global_set, add_global_count, return_global_count}, Kick.{leave_search, load_kick_count, load_kick_set, exchange_kick_count, return_kick_count}, Claim.{claim_worker, set_latch, raise}, Send.{next_task, spawn, dedicate, wake_task, wake_own_root, send_root, send_message, first_letter, send_cancel}, Cells.shard_of, Callback.{Item, Item.{Wakes, LetsGo, Releases, Completes, Answers}, item_next, take_batch, call_back, let_go, release, no_item, send_completion, send_result, wake_waiter}, Load.{load_own_head, load_own_mirror, load_own_word, test_for_work}, Serve.{sample, reap, pass_permit, signal, raise_in_service, advance_wheel, enter_last, end_service}, Submit.{Due, due_next, expire, enrol, try_gate, stage_next, Due.{Expires, Enrols, AtGate}}, Mail.{load_mail_word, take_mail, apply}, Search.{load_search_count, add_search_count, load_scan_head, from_of, load_their_head, load_their_tail, claim_half, move_half, release_half, store_moved}, Look.{publish, return_look_count, look_at_mirror, look_at_count, look_at_head, look_at_tail, exchange_look_count, return_claimed, withdraw}, Wait.{read_clock, enter_full_ring, test_ring, arm_ring, enter_ring, sleep_on_ring, disarm_ring, spin_on_batch, spin_on_latch, take_latch, arm_word, sleep_on_word, disarm_word}, Poll.{Sight, Sight.{Here, Asks, HearsRequest, HearsTimer}, sight_of, sight_of_act, begin_poll, resume, hear_request, hear_timer, act, join_gate, pend, load_spawn_head, remove_task}, Close.{close, close_queue, open_barrier, stop, visit, clear, leave_barrier, close_mailbox, orphan, close_sleeper, end}}
-use Rattle.exec_moves.specs.declared.handing.AfterSend.TheVariants as send
+use Rattle.exec_machine.specs.{declared.config.{Configuration.Configuration, ScriptWord.{ScriptWord, ScriptWord as script}}, Ranges.ring_size, World.{Common, task_of, request_of, Own as Books}, Words.next_word}
+use Rattle.exec_moves.specs.{declared.{handing.{AfterCallbacks.AfterCallbacks, AfterKick.AfterKick, AfterPop.AfterPop, AfterPush.AfterPush, AfterSend.{AfterSend, AfterSend as send}, AfterSignal.AfterSignal, InGlobal.InGlobal, InKick.{InKick, InKick as kick}, InPop.{InPop, InPop as pop}, InPush.{InPush, InPush as push}, InSignal.{InSignal, InSignal as signals}}, idling.{InLook.{InLook, InLook as look}, InRingWait.InRingWait, InScan.{InScan, InScan as scan}, InSearch.{InSearch, InSearch as search}, InWordWait.{InWordWait, InWordWait as word}, Stay.Stay}, place.{InPick.{InPick, InPick as pick}, InPoll.{InPoll, InPoll as poll}, InCallbacks.{InCallbacks, InCallbacks as callback}, InLoads.{InLoads, InLoads as load}, InService.{InService, InService as step}, InMail.{InMail, InMail as mail}, InClosing.{InClosing, InClosing as closing}, Round.Round, Service.Service, Place.{Place, Place as at}}}, State.{Desk, Things, Moved, queue_of, word_of, inbox_of, wake_poll_of, gate_of}, Thing.{aside, with_queue, with_word, with_inbox, with_mailbox, with_wake_poll, with_ring, with_global, with_queues, with_idle, with_barrier, with_shard, with_gate, with_answers, with_alarms, mailbox_of, ring_of}, Pick.{begin_turn, count_down, load_mirror, load_head, take_share, take_root_flag}, Pop.{shard_count, pops, load_pop_head, exchange_pop}, Push.{load_push_head, store_value, flow_over, store_oldest}, Global.{append, load_global_set, add_global_count, return_global_count}, Kick.{leave_search, load_kick_count, load_kick_set, exchange_kick_count, return_kick_count}, Claim.{claim_worker, set_latch, raise}, Send.{next_task, spawn, dedicate, wake_task, wake_own_root, send_root, send_message, first_letter, send_cancel}, Cells.shard_of, Callback.{Item, Item.{Wakes, LetsGo, Releases, Completes, Answers}, item_next, take_batch, call_back, let_go, release, no_item, send_completion, send_result, wake_waiter}, Load.{load_own_head, load_own_mirror, load_own_word, test_for_work}, Serve.{sample, reap, pass_permit, signal, raise_in_service, advance_wheel, enter_last, end_service}, Submit.{Due, due_next, expire, enrol, try_gate, stage_next, Due.{Expires, Enrols, AtGate}}, Mail.{load_mail_word, take_mail, apply}, Search.{load_search_count, add_search_count, load_scan_head, from_of, load_their_head, load_their_tail, claim_half, move_half, release_half, store_moved}, Look.{publish, return_look_count, look_at_mirror, look_at_count, look_at_head, look_at_tail, exchange_look_count, return_claimed, withdraw}, Wait.{read_clock, enter_full_ring, test_ring, arm_ring, enter_ring, sleep_on_ring, disarm_ring, spin_on_batch, spin_on_latch, take_latch, arm_word, sleep_on_word, disarm_word}, Poll.{Sight, Sight.{Here, Asks, HearsRequest, HearsTimer}, sight_of, sight_of_act, begin_poll, resume, hear_request, hear_timer, act, join_gate, pend, load_spawn_head, remove_task}, Close.{close, close_queue, open_barrier, stop, visit, clear, leave_barrier, close_mailbox, orphan, close_sleeper, end}}
 use Rattle.exec_moves.specs.declared.handing.InGlobal.TheVariants as global
-use Rattle.exec_moves.specs.declared.handing.InKick.TheVariants as kick
-use Rattle.exec_moves.specs.declared.handing.InPop.TheVariants as pop
-use Rattle.exec_moves.specs.declared.handing.InPush.TheVariants as push
-use Rattle.exec_moves.specs.declared.handing.InSignal.TheVariants as signals
-use Rattle.exec_moves.specs.declared.idling.InLook.TheVariants as look
 use Rattle.exec_moves.specs.declared.idling.InRingWait.TheVariants as ring
-use Rattle.exec_moves.specs.declared.idling.InScan.TheVariants as scan
-use Rattle.exec_moves.specs.declared.idling.InSearch.TheVariants as search
-use Rattle.exec_moves.specs.declared.idling.InWordWait.TheVariants as word
-use Rattle.exec_moves.specs.declared.place.InPick.TheVariants as pick
-use Rattle.exec_moves.specs.declared.place.InPoll.TheVariants as poll
-use Rattle.exec_moves.specs.declared.place.InCallbacks.TheVariants as callback
-use Rattle.exec_moves.specs.declared.place.InLoads.TheVariants as load
-use Rattle.exec_moves.specs.declared.place.InService.TheVariants as step
-use Rattle.exec_moves.specs.declared.place.InMail.TheVariants as mail
-use Rattle.exec_moves.specs.declared.place.InClosing.TheVariants as closing
-use Rattle.exec_moves.specs.declared.place.Place.TheVariants as at
 
 -- BY GROUPS. c is the configuration, i the worker, me and s what the machine has of it and of all, d and x the rest.
 

@@ -1,11 +1,7 @@
 -- The move of an outside caller: by what its call is for, and from then on by its place.
 use Rattle.std.specs.Prelude.{ℕ, [], slice_index_or, Option, Some, None}
-use Rattle.exec_machine.specs.{declared.{config.Configuration.Configuration, step.Action.Action}, World.{Common, task_of}}
-use Rattle.exec_machine.specs.declared.step.Action.TheVariants as action
-use Rattle.exec_moves.specs.{declared.handing.{CallPlace.CallPlace, InGlobal.InGlobal, InSignal.InSignal}, State.{Things, word_of, wake_poll_of}, Cells.shard_of, Send.next_task, Thing.{call_puts, set_word, set_wake_poll, set_mailbox, set_global, set_idle, set_shard, mailbox_of}, Call.{CallDesk, Called, spawn, wake_task, send_root, append, load_global_set, add_global_count, return_global_count, claim_worker, set_latch, raise, returns}}
-use Rattle.exec_moves.specs.declared.handing.CallPlace.TheVariants as call
-use Rattle.exec_moves.specs.declared.handing.InGlobal.TheVariants as global
-use Rattle.exec_moves.specs.declared.handing.InSignal.TheVariants as signals
+use Rattle.exec_machine.specs.{declared.{config.Configuration.Configuration, step.Action.{Action, Action as action}}, World.{Common, task_of}}
+use Rattle.exec_moves.specs.{declared.handing.{CallPlace.{CallPlace, CallPlace as call}, InGlobal.{InGlobal, InGlobal as global}, InSignal.{InSignal, InSignal as signals}}, State.{Things, word_of, wake_poll_of}, Cells.shard_of, Send.next_task, Thing.{call_puts, set_word, set_wake_poll, set_mailbox, set_global, set_idle, set_shard, mailbox_of}, Call.{CallDesk, Called, spawn, wake_task, send_root, append, load_global_set, add_global_count, return_global_count, claim_worker, set_latch, raise, returns}}
 
 -- THE FIRST STEP
 

@@ -2,23 +2,7 @@
 use Rattle.std.specs.Prelude.{ℕ, Bool, ◌==◌, nat_lt, List, [], ◌∷◌, Option, Some, None, if◌then◌else◌}
 use Rattle.exec_task.specs.declared.drain.Drain.{Drain}
 use Rattle.exec_machine.specs.{declared.{config.Configuration.Configuration, state.Letter.Letter}, Ranges.ring_size, World.{Common, Own as Books}}
-use Rattle.exec_moves.specs.{declared.{handing.{AfterCancels.AfterCancels, AfterKick.AfterKick, AfterLeave.AfterLeave, AfterPop.AfterPop, AfterPush.AfterPush, AfterSend.AfterSend, AfterSignal.AfterSignal}, place.{InClosing.InClosing, Place.Place}}, State.{Desk}, Callback.next_callback, Load.{next_turn}}
-use Rattle.exec_moves.specs.declared.handing.AfterCallbacks.TheVariants as after
-use Rattle.exec_moves.specs.declared.handing.AfterCancels.TheVariants as cancels
-use Rattle.exec_moves.specs.declared.handing.AfterClaim.TheVariants as claim
-use Rattle.exec_moves.specs.declared.handing.AfterKick.TheVariants as kick
-use Rattle.exec_moves.specs.declared.handing.AfterLeave.TheVariants as leave
-use Rattle.exec_moves.specs.declared.handing.AfterPop.TheVariants as pop
-use Rattle.exec_moves.specs.declared.handing.AfterPush.TheVariants as push
-use Rattle.exec_moves.specs.declared.handing.AfterSend.TheVariants as send
-use Rattle.exec_moves.specs.declared.handing.AfterSignal.TheVariants as signal
-use Rattle.exec_moves.specs.declared.handing.InKick.TheVariants as kicks
-use Rattle.exec_moves.specs.declared.handing.InPop.TheVariants as pops
-use Rattle.exec_moves.specs.declared.place.InCallbacks.TheVariants as callback
-use Rattle.exec_moves.specs.declared.place.InClosing.TheVariants as closing
-use Rattle.exec_moves.specs.declared.place.InPick.TheVariants as pick
-use Rattle.exec_moves.specs.declared.place.InPoll.TheVariants as poll
-use Rattle.exec_moves.specs.declared.place.Place.TheVariants as at
+use Rattle.exec_moves.specs.{declared.{handing.{AfterCancels.{AfterCancels, AfterCancels as cancels}, AfterKick.{AfterKick, AfterKick as kick}, AfterLeave.{AfterLeave, AfterLeave as leave}, AfterPop.{AfterPop, AfterPop as pop}, AfterPush.{AfterPush, AfterPush as push}, AfterSend.{AfterSend, AfterSend as send}, AfterSignal.{AfterSignal, AfterSignal as signal}, AfterCallbacks.AfterCallbacks as after, AfterClaim.AfterClaim as claim, InKick.InKick as kicks, InPop.InPop as pops}, place.{InClosing.{InClosing, InClosing as closing}, Place.{Place, Place as at}, InCallbacks.InCallbacks as callback, InPick.InPick as pick, InPoll.InPoll as poll}}, State.Desk, Callback.next_callback, Load.next_turn}
 
 -- there are others to steal, to be kicked and to be searched for
 abbrev pub has_others : Configuration → Bool

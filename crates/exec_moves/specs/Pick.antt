@@ -2,13 +2,7 @@
 use Rattle.std.specs.Prelude.{ℕ, false, ◌-◌, List, [], ◌∷◌, length, take, drop, nat_le, if◌then◌else◌}
 use Rattle.exec_words.specs.{Queue.{Queue, published, room_of}, Global.share_of}
 use Rattle.exec_machine.specs.{declared.{config.Configuration.Configuration, event.Event.TheVariants.Turn}, World.Common}
-use Rattle.exec_moves.specs.{declared.{handing.First.First, place.Place.Place}, State.{Desk, Moved, Own, does, turns}, Callback.is_of_pool, Parts.{first_pop, polls}}
-use Rattle.exec_moves.specs.declared.handing.AfterCallbacks.TheVariants as after
-use Rattle.exec_moves.specs.declared.handing.AfterPop.TheVariants as pop
-use Rattle.exec_moves.specs.declared.handing.First.TheVariants as first
-use Rattle.exec_moves.specs.declared.place.InCallbacks.TheVariants as callback
-use Rattle.exec_moves.specs.declared.place.InPick.TheVariants as pick
-use Rattle.exec_moves.specs.declared.place.Place.TheVariants as at
+use Rattle.exec_moves.specs.{declared.{handing.{First.{First, First as first}, AfterCallbacks.AfterCallbacks as after, AfterPop.AfterPop as pop}, place.{Place.{Place, Place as at}, InCallbacks.InCallbacks as callback, InPick.InPick as pick}}, State.{Desk, Moved, Own, does, turns}, Callback.is_of_pool, Parts.{first_pop, polls}}
 
 -- a turn has so many picks
 abbrev pub picks_of_turn : ℕ

@@ -4,12 +4,10 @@
 -- the move at the party's place tells, and the next is told from where that move leads.
 use Rattle.std.specs.Prelude.{◌≡◌, ℕ, zero, suc, Bool, true, false, not, ◌+◌, ◌==◌, ◌&&◌, ◌++◌, List, [], ◌∷◌, replicate, slice_index_or, slice_set, Some, None, if◌then◌else◌}
 use Rattle.exec_base.specs.Spinner.{begun}
-use Rattle.exec_machine.specs.{declared.{config.Configuration.Configuration, event.{Event.{TheVariants.{Dedicated, Land, Clock, Set, Stir, Peer}, Event}, StepResult.TheVariants.Did}, step.{Action.Action, Step.Step}, state.{Letter.Letter, Next.Next}}, Choice.Choice.Plain, World.{World, Common, own_of, seat_of, request_of}, Same.{same_number, same_message}, Tests.all_numbered, Callers.{is_enabled, may_go_on}, Run.{after_event, after_steps, is_run}, Progress.{Plan, begin}, Examples.{Example, Told, says, refuses, lines_of, choices_of}}
+use Rattle.exec_machine.specs.{declared.{config.Configuration.Configuration, event.{Event.{TheVariants.{Dedicated, Land, Clock, Set, Stir, Peer}, Event}, StepResult.TheVariants.Did}, step.{Action.Action, Step.{Step, Step as step}}, state.{Letter.Letter, Next.Next}}, Choice.Choice.Plain, World.{World, Common, own_of, seat_of, request_of}, Same.{same_number, same_message}, Tests.all_numbered, Callers.{is_enabled, may_go_on}, Run.{after_event, after_steps, is_run}, Progress.{Plan, begin}, Examples.{Example, Told, says, refuses, lines_of, choices_of}}
+use Rattle.exec_moves.specs.{declared.place.Place.Place as at, State.{Desk, Things, WakePoll, Moved, no_queue, no_word, no_wake_poll, wake_poll_of, passed}, Slots.no_slots, Thing.set_wake_poll, Pop.shard_count, Call.{CallDesk, Called, no_call}, Move.move, MoveOfCaller.move_of_caller, Seen.{polls_at, next_at, owes_at, left_at, serves_at, is_calling}}
 use Rattle.exec_machine.specs.declared.step.Action.TheVariants as action
-use Rattle.exec_machine.specs.declared.step.Step.TheVariants as step
 use Rattle.exec_machine.specs.declared.state.Next.TheVariants as next
-use Rattle.exec_moves.specs.declared.place.Place.TheVariants as at
-use Rattle.exec_moves.specs.{State.{Desk, Things, WakePoll, Moved, no_queue, no_word, no_wake_poll, wake_poll_of, passed}, Slots.no_slots, Thing.set_wake_poll, Pop.shard_count, Call.{CallDesk, Called, no_call}, Move.move, MoveOfCaller.move_of_caller, Seen.{polls_at, next_at, owes_at, left_at, serves_at, is_calling}}
 
 -- an executor: what the machine knows of it, what each worker and each caller has of its own, and what they share
 pub record Playing : Type 0 where

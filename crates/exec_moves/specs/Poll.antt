@@ -1,22 +1,9 @@
 -- Moves of a poll: its beginning, the acts of the task that concern itself alone, and its end.
 use Rattle.std.specs.Prelude.{ℕ, Bool, true, false, not, ◌==◌, ◌||◌, ◌++◌, List, [], ◌∷◌, filter, length, Option, Some, None, if◌then◌else◌}
 use Rattle.exec_outcomes.specs.Accounts.{is_durable}
-use Rattle.exec_machine.specs.{declared.{config.{Configuration.Configuration, ScriptWord.ScriptWord}, event.Event.TheVariants.{Turn, Begin, Pend, Done, Fault, Admit, Wait, Got, Drop, Timer, GotTimer, Pass, Wake}, state.{MailMessage.{MailMessage, TheVariants.{ForwardRequest, ForwardTimer, CancelRequest}}, Operation.Operation, RequestPhase.RequestPhase, TaskPhase.TaskPhase, Waiting.Waiting}}, Choice.{Choice.Pays, Payer.ByAct}, World.{Task, Common, request_of, sleeper_of, Own as Books}, Tests.{is_ready, is_unsent}, Words.{next_word, newest_held, sleep_asked}, Requests.{operation_asked, outcome_if_late}, Tasks.begun_waiting}
-use Rattle.exec_machine.specs.declared.config.ScriptWord.TheVariants as word
-use Rattle.exec_machine.specs.declared.state.RequestPhase.TheVariants as phase
-use Rattle.exec_machine.specs.declared.state.TaskPhase.TheVariants as task
-use Rattle.exec_machine.specs.declared.state.Waiting.TheVariants as waiting
+use Rattle.exec_machine.specs.{declared.{config.{Configuration.Configuration, ScriptWord.{ScriptWord, ScriptWord as word}}, event.Event.TheVariants.{Turn, Begin, Pend, Done, Fault, Admit, Wait, Got, Drop, Timer, GotTimer, Pass, Wake}, state.{MailMessage.{MailMessage, TheVariants.{ForwardRequest, ForwardTimer, CancelRequest}}, Operation.Operation, RequestPhase.{RequestPhase, RequestPhase as phase}, TaskPhase.{TaskPhase, TaskPhase as task}, Waiting.{Waiting, Waiting as waiting}}}, Choice.{Choice.Pays, Payer.ByAct}, World.{Task, Common, request_of, sleeper_of, Own as Books}, Tests.{is_ready, is_unsent}, Words.{next_word, newest_held, sleep_asked}, Requests.{operation_asked, outcome_if_late}, Tasks.begun_waiting}
 use Rattle.exec_words.specs.Queue.{Queue, tail_of}
-use Rattle.exec_moves.specs.declared.handing.AfterCallbacks.TheVariants as after
-use Rattle.exec_moves.specs.declared.handing.AfterCancels.TheVariants as cancels
-use Rattle.exec_moves.specs.declared.handing.AfterPush.TheVariants as push
-use Rattle.exec_moves.specs.declared.handing.InGlobal.TheVariants as global
-use Rattle.exec_moves.specs.declared.handing.InPush.TheVariants as pushes
-use Rattle.exec_moves.specs.declared.place.InCallbacks.TheVariants as callback
-use Rattle.exec_moves.specs.declared.place.InClosing.TheVariants as closing
-use Rattle.exec_moves.specs.{declared.place.{InPoll.InPoll, Place.Place}, State.{Desk, Moved, does, turns, goes}, Told.{has_number, with_request, without_request, awaits, told_of_drop, with_timer, lets_go_all}, Parts.{after_poll, next_pick, cancels_left}}
-use Rattle.exec_moves.specs.declared.place.InPoll.TheVariants as poll
-use Rattle.exec_moves.specs.declared.place.Place.TheVariants as at
+use Rattle.exec_moves.specs.{declared.{handing.{AfterCallbacks.AfterCallbacks as after, AfterCancels.AfterCancels as cancels, AfterPush.AfterPush as push, InGlobal.InGlobal as global, InPush.InPush as pushes}, place.{InCallbacks.InCallbacks as callback, InClosing.InClosing as closing, InPoll.{InPoll, InPoll as poll}, Place.{Place, Place as at}}}, State.{Desk, Moved, does, turns, goes}, Told.{has_number, with_request, without_request, awaits, told_of_drop, with_timer, lets_go_all}, Parts.{after_poll, next_pick, cancels_left}}
 
 -- BEGIN, PEND
 

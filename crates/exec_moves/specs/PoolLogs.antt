@@ -1,10 +1,6 @@
 -- Whole logs of several workers and callers, with what their lines leave open. `tools/example` wrote them.
 use Rattle.std.specs.Prelude.{false, [], ◌∷◌, ◌++◌, None}
-use Rattle.exec_machine.specs.declared.config.ScriptWord.TheVariants as word
-use Rattle.exec_machine.specs.declared.step.Step.TheVariants as step
-use Rattle.exec_machine.specs.declared.step.Action.TheVariants as action
-use Rattle.exec_machine.specs.declared.state.MailMessage.TheVariants as message
-use Rattle.exec_machine.specs.{declared.event.Event.TheVariants.{Turn, Serve, Begin, Pend, Done, Spawn, Clear, Wait, Pass, Apply, Rouse, Sleep, Close, Stop, End, Return}, Choice.Payer.{ByAct, ByCall, ByStop}, Examples.{Example, usual, says, does, refuses, passes, pays, posts, times}}
+use Rattle.exec_machine.specs.{declared.{config.ScriptWord.ScriptWord as word, step.{Step.Step as step, Action.Action as action}, state.MailMessage.MailMessage as message, event.Event.TheVariants.{Turn, Serve, Begin, Pend, Done, Spawn, Clear, Wait, Pass, Apply, Rouse, Sleep, Close, Stop, End, Return}}, Choice.Payer.{ByAct, ByCall, ByStop}, Examples.{Example, usual, says, does, refuses, passes, pays, posts, times}}
 
 -- A caller spawns a task while a worker is about to wait: the worker has published itself, and is claimed and signalled
 -- before its look.

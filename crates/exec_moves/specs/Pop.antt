@@ -3,12 +3,7 @@ use Rattle.std.specs.Prelude.{ℕ, zero, suc, Bool, ◌-◌, ◌*◌, ◌%◌, �
 use Rattle.exec_words.specs.{declared.head.Head.Head, Queue.{Queue, head_of, tail_of, popped}}
 use Rattle.exec_task.specs.declared.drain.Drain.{Drain}
 use Rattle.exec_machine.specs.declared.{config.Configuration.Configuration, event.Event.TheVariants.Turn}
-use Rattle.exec_moves.specs.{declared.{handing.AfterPop.AfterPop, place.Place.Place}, State.{Desk, Moved, does, goes, turns}, Parts.{first_pop, polls}}
-use Rattle.exec_moves.specs.declared.handing.AfterPop.TheVariants as pop
-use Rattle.exec_moves.specs.declared.handing.First.TheVariants as first
-use Rattle.exec_moves.specs.declared.handing.InPop.TheVariants as step
-use Rattle.exec_moves.specs.declared.place.InClosing.TheVariants as closing
-use Rattle.exec_moves.specs.declared.place.InPick.TheVariants as pick
+use Rattle.exec_moves.specs.{declared.{handing.{AfterPop.{AfterPop, AfterPop as pop}, First.First as first, InPop.InPop as step}, place.{Place.Place, InClosing.InClosing as closing, InPick.InPick as pick}}, State.{Desk, Moved, does, goes, turns}, Parts.{first_pop, polls}}
 use Rattle.exec_moves.specs.declared.place.Place.TheVariants as at
 
 -- the first of these powers of two, from this one on, that isn't less than the number

@@ -1,14 +1,8 @@
 -- Moves of a push of the runnable in the hand into the own run queue.
 use Rattle.std.specs.Prelude.{ℕ, ◌&&◌, List, [], ◌∷◌, nat_le, Option, Some, None, if◌then◌else◌}
-use Rattle.exec_words.specs.{declared.head.{Fit.Fit, Head.Head}, Queue.{Queue, head_of, fit_of, published, overflowed, newest, restored}}
+use Rattle.exec_words.specs.{declared.head.{Fit.{Fit, Fit as fit}, Head.Head}, Queue.{Queue, head_of, fit_of, published, overflowed, newest, restored}}
 use Rattle.exec_machine.specs.{declared.config.Configuration.Configuration, World.{Common, Own as Books}}
-use Rattle.exec_moves.specs.{declared.{handing.AfterPush.AfterPush, place.Place.Place}, State.{Desk, Moved, turns}, Parts.{has_others, after_push}, Pop.same_head}
-use Rattle.exec_words.specs.declared.head.Fit.TheVariants as fit
-use Rattle.exec_moves.specs.declared.handing.AfterKick.TheVariants as kick
-use Rattle.exec_moves.specs.declared.handing.InGlobal.TheVariants as global
-use Rattle.exec_moves.specs.declared.handing.InKick.TheVariants as kicks
-use Rattle.exec_moves.specs.declared.handing.InPush.TheVariants as step
-use Rattle.exec_moves.specs.declared.place.Place.TheVariants as at
+use Rattle.exec_moves.specs.{declared.{handing.{AfterPush.AfterPush, AfterKick.AfterKick as kick, InGlobal.InGlobal as global, InKick.InKick as kicks, InPush.InPush as step}, place.Place.{Place, Place as at}}, State.{Desk, Moved, turns}, Parts.{has_others, after_push}, Pop.same_head}
 
 -- the runnable in the hand, if there is one
 abbrev pub in_hand : Option ℕ → List ℕ

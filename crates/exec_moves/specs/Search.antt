@@ -1,12 +1,8 @@
 -- Moves of a worker that has nothing to do and searches: half of the values of another run queue move into its own.
 use Rattle.std.specs.Prelude.{ℕ, true, ◌+◌, ◌-◌, ◌*◌, ◌%◌, ◌==◌, [], take, nat_le, nat_lt, if◌then◌else◌}
 use Rattle.exec_words.specs.{declared.head.Head.Head, Generator.stirred, Head.{claim_at, claimed_head}, Idle.Idle, Queue.{Queue, head_of, tail_of, room_of, claimed, released, published}}
-use Rattle.exec_machine.specs.{declared.{config.Configuration.Configuration}, World.{Common, Own as Books}}
-use Rattle.exec_moves.specs.{declared.{idling.Scan.Scan, place.Place.Place}, State.{Desk, Moved, Own, turns}, Load.leaves_for_turn, Global.one_count_more, Pop.same_head}
-use Rattle.exec_moves.specs.declared.idling.InLook.TheVariants as look
-use Rattle.exec_moves.specs.declared.idling.InScan.TheVariants as step
-use Rattle.exec_moves.specs.declared.idling.InSearch.TheVariants as search
-use Rattle.exec_moves.specs.declared.place.Place.TheVariants as at
+use Rattle.exec_machine.specs.{declared.config.Configuration.Configuration, World.{Common, Own as Books}}
+use Rattle.exec_moves.specs.{declared.{idling.{Scan.Scan, InLook.InLook as look, InScan.InScan as step, InSearch.InSearch as search}, place.Place.{Place, Place as at}}, State.{Desk, Moved, Own, turns}, Load.leaves_for_turn, Global.one_count_more, Pop.same_head}
 
 -- SEARCH
 

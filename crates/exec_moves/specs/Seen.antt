@@ -1,24 +1,7 @@
 -- What a place says of its worker: what of the machine's own part is read off it.
 use Rattle.std.specs.Prelude.{ℕ, Bool, true, false, not, ◌==◌, ◌-◌, ◌&&◌, ◌++◌, List, [], Option, Some, None}
-use Rattle.exec_machine.specs.{declared.{config.Configuration.Configuration, state.{Letter.Letter, Next.Next}}, Closing.letters_to_roots}
-use Rattle.exec_machine.specs.declared.state.Next.TheVariants as next
-use Rattle.exec_moves.specs.declared.{handing.{AfterCallbacks.AfterCallbacks, AfterClaim.AfterClaim, AfterKick.AfterKick, AfterPush.AfterPush, AfterSend.AfterSend, AfterSignal.AfterSignal, CallPlace.CallPlace}, idling.Stay.Stay, place.{AfterService.AfterService, InPoll.InPoll, InCallbacks.InCallbacks, InService.InService, InMail.InMail, InClosing.InClosing, Place.Place}}
-use Rattle.exec_moves.specs.State.{Desk}
-use Rattle.exec_moves.specs.declared.handing.AfterCallbacks.TheVariants as after
-use Rattle.exec_moves.specs.declared.handing.AfterClaim.TheVariants as claim
-use Rattle.exec_moves.specs.declared.handing.AfterKick.TheVariants as kick
-use Rattle.exec_moves.specs.declared.handing.AfterPush.TheVariants as push
-use Rattle.exec_moves.specs.declared.handing.AfterSend.TheVariants as send
-use Rattle.exec_moves.specs.declared.handing.AfterSignal.TheVariants as signal
-use Rattle.exec_moves.specs.declared.handing.CallPlace.TheVariants as call
-use Rattle.exec_moves.specs.declared.idling.Stay.TheVariants as stay
-use Rattle.exec_moves.specs.declared.place.AfterService.TheVariants as back
-use Rattle.exec_moves.specs.declared.place.InPoll.TheVariants as poll
-use Rattle.exec_moves.specs.declared.place.InCallbacks.TheVariants as callback
-use Rattle.exec_moves.specs.declared.place.InService.TheVariants as step
-use Rattle.exec_moves.specs.declared.place.InMail.TheVariants as mail
-use Rattle.exec_moves.specs.declared.place.InClosing.TheVariants as closing
-use Rattle.exec_moves.specs.declared.place.Place.TheVariants as at
+use Rattle.exec_machine.specs.{declared.{config.Configuration.Configuration, state.{Letter.Letter, Next.{Next, Next as next}}}, Closing.letters_to_roots}
+use Rattle.exec_moves.specs.{declared.{handing.{AfterCallbacks.{AfterCallbacks, AfterCallbacks as after}, AfterClaim.{AfterClaim, AfterClaim as claim}, AfterKick.{AfterKick, AfterKick as kick}, AfterPush.{AfterPush, AfterPush as push}, AfterSend.{AfterSend, AfterSend as send}, AfterSignal.{AfterSignal, AfterSignal as signal}, CallPlace.{CallPlace, CallPlace as call}}, idling.Stay.{Stay, Stay as stay}, place.{AfterService.{AfterService, AfterService as back}, InPoll.{InPoll, InPoll as poll}, InCallbacks.{InCallbacks, InCallbacks as callback}, InService.{InService, InService as step}, InMail.{InMail, InMail as mail}, InClosing.{InClosing, InClosing as closing}, Place.{Place, Place as at}}}, State.Desk}
 
 -- THE TASK THAT IT POLLS
 

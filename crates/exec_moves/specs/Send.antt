@@ -5,15 +5,8 @@
 use Rattle.std.specs.{Prelude.{ℕ, Bool, true, false, not, ◌&&◌, ◌++◌, List, [], ◌∷◌, drop, length, slice_index_or, Some, if◌then◌else◌}, List.list_any}
 use Rattle.exec_words.specs.{Word.{asks_signal, next_batch}, declared.word.PureWord.PureWord}
 use Rattle.exec_machine.specs.{declared.{config.Configuration.Configuration, event.Event.{Event, TheVariants.{Spawn, Dedicated, Closed, Wake, Send}}, state.{Letter.Letter, MailMessage.{MailMessage, TheVariants.Root}}}, Choice.{Choice, Payer, Choice.{Plain, Pays, Posts}, Payer.{ByAct, ByStop}}, World.{Task, Common, seat_of}, Tests.{is_empty, is_idle}, Mail.is_root_message}
-use Rattle.exec_moves.specs.{declared.{handing.{AfterCancels.AfterCancels, AfterSend.AfterSend}, place.Place.Place}, State.{Desk, Things, Moved, does, goes, no_queue, no_word, no_wake_poll}, Callback.{flagged_by, is_of_pool, to_queue}, Parts.{has_others, after_send}}
-use Rattle.exec_moves.specs.declared.handing.AfterPush.TheVariants as push
-use Rattle.exec_moves.specs.declared.handing.AfterSend.TheVariants as send
-use Rattle.exec_moves.specs.declared.handing.AfterSignal.TheVariants as signal
-use Rattle.exec_moves.specs.declared.handing.InGlobal.TheVariants as global
-use Rattle.exec_moves.specs.declared.handing.InPush.TheVariants as pushes
+use Rattle.exec_moves.specs.{declared.{handing.{AfterCancels.AfterCancels, AfterSend.{AfterSend, AfterSend as send}, AfterPush.AfterPush as push, AfterSignal.AfterSignal as signal, InGlobal.InGlobal as global, InPush.InPush as pushes}, place.{Place.{Place, Place as at}, InPoll.InPoll as poll}}, State.{Desk, Things, Moved, does, goes, no_queue, no_word, no_wake_poll}, Callback.{flagged_by, is_of_pool, to_queue}, Parts.{has_others, after_send}}
 use Rattle.exec_moves.specs.declared.handing.InSignal.TheVariants as signals
-use Rattle.exec_moves.specs.declared.place.InPoll.TheVariants as poll
-use Rattle.exec_moves.specs.declared.place.Place.TheVariants as at
 
 -- SPAWN
 

@@ -2,17 +2,8 @@
 use Rattle.std.specs.Prelude.{ℕ, suc, Bool, false, not, ◌+◌, ◌&&◌, ◌||◌, List, [], ◌∷◌, drop, length, nat_le, slice_get, Option, Some, None, if◌then◌else◌}
 use Rattle.exec_outcomes.specs.{declared.outcome.{OpResult.{OpResult, TheVariants.Count}, Outcome.Outcome}, Accounts.is_durable}
 use Rattle.exec_words.specs.{Word.asks_signal, declared.word.PureWord.PureWord}
-use Rattle.exec_machine.specs.{declared.{config.Configuration.Configuration, event.Event.{Event, TheVariants.{Serve, Enter, Busy, Reap, Fire, Rouse}}, state.{RequestPhase.RequestPhase, Request.Request}}, World.{Common, request_of, sleeper_of, seat_of, Own as Books}, Tests.{is_awake, is_empty, is_asleep, is_open}, Requests.{outcome_given, outcome_shown, account_of_open}, Deadlines.is_none_earlier}
-use Rattle.exec_machine.specs.declared.state.RequestPhase.TheVariants as phase
-use Rattle.exec_moves.specs.{declared.place.{AfterPermit.AfterPermit, AfterService.AfterService, InService.InService, Reaping.Reaping, Service.Service, Place.Place}, State.{WakePoll, Desk, Moved, Own, does, serves, taken_in, others_left, is_dropped, dropped}, Claim.{is_ring, latched, raised_if}, Callback.{has_callbacks, has_requests}, Told.{told_if_ended, told_of_fire}, Slots.first_in, Load.has_submissions}
-use Rattle.exec_moves.specs.declared.place.AfterPermit.TheVariants as permit
-use Rattle.exec_moves.specs.declared.place.AfterService.TheVariants as back
-use Rattle.exec_moves.specs.declared.handing.AfterCallbacks.TheVariants as after
-use Rattle.exec_moves.specs.declared.place.InCallbacks.TheVariants as callback
-use Rattle.exec_moves.specs.declared.place.InMail.TheVariants as mail
-use Rattle.exec_moves.specs.declared.place.InService.TheVariants as step
-use Rattle.exec_moves.specs.declared.place.Reaping.TheVariants as reaping
-use Rattle.exec_moves.specs.declared.place.Place.TheVariants as at
+use Rattle.exec_machine.specs.{declared.{config.Configuration.Configuration, event.Event.{Event, TheVariants.{Serve, Enter, Busy, Reap, Fire, Rouse}}, state.{RequestPhase.{RequestPhase, RequestPhase as phase}, Request.Request}}, World.{Common, request_of, sleeper_of, seat_of, Own as Books}, Tests.{is_awake, is_empty, is_asleep, is_open}, Requests.{outcome_given, outcome_shown, account_of_open}, Deadlines.is_none_earlier}
+use Rattle.exec_moves.specs.{declared.{place.{AfterPermit.{AfterPermit, AfterPermit as permit}, AfterService.{AfterService, AfterService as back}, InService.{InService, InService as step}, Reaping.{Reaping, Reaping as reaping}, Service.Service, Place.{Place, Place as at}, InCallbacks.InCallbacks as callback, InMail.InMail as mail}, handing.AfterCallbacks.AfterCallbacks as after}, State.{WakePoll, Desk, Moved, Own, does, serves, taken_in, others_left, is_dropped, dropped}, Claim.{is_ring, latched, raised_if}, Callback.{has_callbacks, has_requests}, Told.{told_if_ended, told_of_fire}, Slots.first_in, Load.has_submissions}
 
 -- the latch goes out of the wake word
 abbrev pub unlatched : PureWord → PureWord

@@ -1,13 +1,8 @@
 -- Moves of the middle of a service: deadlines, gates and stagings, which share one place.
-use Rattle.std.specs.Prelude.{ℕ, suc, Bool, true, not, ◌+◌, ◌==◌, ◌&&◌, ◌||◌, nat_lt, nat_le, List, slice_get, Option, Some, None, if◌then◌else◌}
-use Rattle.std.specs.List.{list_any}
+use Rattle.std.specs.{Prelude.{ℕ, suc, Bool, true, not, ◌+◌, ◌==◌, ◌&&◌, ◌||◌, nat_lt, nat_le, List, slice_get, Option, Some, None, if◌then◌else◌}, List.list_any}
 use Rattle.exec_outcomes.specs.{declared.outcome.Outcome.Outcome, Accounts.outcome_at_grant}
-use Rattle.exec_machine.specs.{declared.{config.Configuration.Configuration, event.Event.{TheVariants.{Serve, Expire, Enrol, Grant, Cancel, Stage}, Event}, state.Request.Request}, Ranges.ring_size, World.{Common, request_of, Own as Books}, Tests.{is_empty, is_gated}, Requests.account_of_open, Deadlines.{outcome_at_enrol, is_first_due, outcome_at_expiry}}
-use Rattle.exec_machine.specs.declared.event.Event.TheVariants as event
-use Rattle.exec_moves.specs.declared.place.AfterPermit.TheVariants as permit
-use Rattle.exec_moves.specs.declared.place.InService.TheVariants as step
-use Rattle.exec_moves.specs.{declared.place.Service.Service, State.{Desk, Moved, Own, does}, Told.told_if_ended, Callback.is_full, Load.may_stage, Serve.{Ring, after_staging, enter, first_numbered}}
-use Rattle.exec_moves.specs.declared.place.Place.TheVariants as at
+use Rattle.exec_machine.specs.{declared.{config.Configuration.Configuration, event.Event.{TheVariants.{Serve, Expire, Enrol, Grant, Cancel, Stage}, Event, Event as event}, state.Request.Request}, Ranges.ring_size, World.{Common, request_of, Own as Books}, Tests.{is_empty, is_gated}, Requests.account_of_open, Deadlines.{outcome_at_enrol, is_first_due, outcome_at_expiry}}
+use Rattle.exec_moves.specs.{declared.place.{AfterPermit.AfterPermit as permit, InService.InService as step, Service.Service, Place.Place as at}, State.{Desk, Moved, Own, does}, Told.told_if_ended, Callback.is_full, Load.may_stage, Serve.{Ring, after_staging, enter, first_numbered}}
 
 -- WHAT IS NEXT
 

@@ -2,10 +2,8 @@
 --
 -- A request keeps its slot until its output was taken, was let go, or is sent to who waits elsewhere; a sleeper until it is
 -- over. Who waits here is woken, and of the rest one waits elsewhere, or nobody does.
-use Rattle.std.specs.Prelude.{ℕ, Bool, not, ◌+◌, ◌==◌, ◌&&◌, ◌||◌, ◌++◌, List, [], ◌∷◌, filter, nat_lt, Option, Some, None, if◌then◌else◌}
-use Rattle.std.specs.List.{list_any}
-use Rattle.exec_machine.specs.{declared.state.{Request.Request, Sleeper.Sleeper, Waiting.Waiting, MailMessage.{MailMessage, TheVariants.{CancelRequest, CancelTimer}}}, World.{Task, Common, request_of, sleeper_of}, Tests.{is_applied, is_resolved}, Requests.ends_by_drop}
-use Rattle.exec_machine.specs.declared.state.Waiting.TheVariants as waiting
+use Rattle.std.specs.{Prelude.{ℕ, Bool, not, ◌+◌, ◌==◌, ◌&&◌, ◌||◌, ◌++◌, List, [], ◌∷◌, filter, nat_lt, Option, Some, None, if◌then◌else◌}, List.list_any}
+use Rattle.exec_machine.specs.{declared.state.{Request.Request, Sleeper.Sleeper, Waiting.{Waiting, Waiting as waiting}, MailMessage.{MailMessage, TheVariants.{CancelRequest, CancelTimer}}}, World.{Task, Common, request_of, sleeper_of}, Tests.{is_applied, is_resolved}, Requests.ends_by_drop}
 use Rattle.exec_moves.specs.{Slots.{entered, vacated, is_in_slots, numbers_in}, State.Desk}
 
 -- the number is in the list

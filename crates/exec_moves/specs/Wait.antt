@@ -2,18 +2,9 @@
 use Rattle.std.specs.Prelude.{ℕ, Bool, true, false, not, ◌-◌, ◌*◌, ◌&&◌, ◌||◌, nat_lt, nat_le, Option, Some, None, if◌then◌else◌}
 use Rattle.exec_base.specs.Spinner.{after_hit, after_miss, after_wake}
 use Rattle.exec_words.specs.{Word.is_idle_at, declared.word.PureWord.PureWord}
-use Rattle.exec_words.specs.declared.word.WaitTarget.TheVariants as target
 use Rattle.exec_machine.specs.{declared.{config.Configuration.Configuration, event.Event.{Event, TheVariants.{Turn, Sleep, Enter}}}, Ranges.ring_size, Tests.is_empty, World.{Common, Own as Books}, Deadlines.next_due}
-use Rattle.exec_moves.specs.declared.place.AfterService.TheVariants as back
-use Rattle.exec_moves.specs.{declared.{idling.{AfterWait.AfterWait, Stay.Stay}, place.Place.Place}, State.{Desk, Moved, Own, turns, does}, Callback.{has_requests, is_of_pool, serve, ring_wait, is_full}, Load.{has_mail, has_submissions, has_come, leaves_for_turn}, Submit.with_poll, Serve.{Ring, enter}}
-use Rattle.exec_moves.specs.declared.idling.AfterWait.TheVariants as next
-use Rattle.exec_moves.specs.declared.idling.InLook.TheVariants as look
-use Rattle.exec_moves.specs.declared.idling.InRingWait.TheVariants as ring
-use Rattle.exec_moves.specs.declared.idling.InScan.TheVariants as scan
-use Rattle.exec_moves.specs.declared.idling.InSearch.TheVariants as search
-use Rattle.exec_moves.specs.declared.idling.InWordWait.TheVariants as word
-use Rattle.exec_moves.specs.declared.idling.Stay.TheVariants as stay
-use Rattle.exec_moves.specs.declared.place.Place.TheVariants as at
+use Rattle.exec_moves.specs.{declared.{place.{AfterService.AfterService as back, Place.{Place, Place as at}}, idling.{AfterWait.{AfterWait, AfterWait as next}, Stay.{Stay, Stay as stay}, InLook.InLook as look, InRingWait.InRingWait as ring, InScan.InScan as scan, InSearch.InSearch as search, InWordWait.InWordWait as word}}, State.{Desk, Moved, Own, turns, does}, Callback.{has_requests, is_of_pool, serve, ring_wait, is_full}, Load.{has_mail, has_submissions, has_come, leaves_for_turn}, Submit.with_poll, Serve.{Ring, enter}}
+use Rattle.exec_words.specs.declared.word.WaitTarget.TheVariants as target
 
 -- WHICH WAIT
 

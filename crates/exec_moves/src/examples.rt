@@ -1,17 +1,10 @@
 //! Worked examples, proved by computation: single moves, and whole logs of one worker.
 
 ghost use Rattle.std.specs.Prelude.{◌≡◌, true, false, [], ◌∷◌, Some};
-ghost use Rattle.exec_words.specs.declared.word.WaitTarget.TheVariants as target;
 ghost use Rattle.exec_outcomes.specs.declared.outcome.{OpResult.TheVariants.Count, Outcome.TheVariants.Success};
-ghost use Rattle.exec_machine.specs.{declared.{event.Event.TheVariants.{Turn, Serve, Enter, Reap, Sleep, Close, Stop, End}, state.MailMessage.TheVariants.Root}, Choice.Payer.ByRequest, Examples.{usual, does, pays}, Logs.a_send, MoreLogs.{a_deadline, a_late_enrolment, deadlines_in_order, the_wheel_goes_round, a_clock_in_a_service, a_clock_between_samples, a_cancel_in_time, parts, what_a_task_held}};
-ghost use Rattle.exec_machine.specs.declared.step.Action.TheVariants as action;
-ghost use Rattle.exec_machine.specs.declared.step.Step.TheVariants as step;
-ghost use Rattle.exec_moves.specs.declared.handing.First.TheVariants as first;
-ghost use Rattle.exec_moves.specs.declared.handing.AfterPop.TheVariants as popped;
-ghost use Rattle.exec_moves.specs.declared.handing.InPop.TheVariants as pop;
-ghost use Rattle.exec_moves.specs.declared.place.InPick.TheVariants as pick;
-ghost use Rattle.exec_moves.specs.declared.place.Place.TheVariants as at;
-ghost use Rattle.exec_moves.specs.{Cells.Cell.{IdleSet, SearchCount, Inbox}, Claim.latched, Departures.{Departs, two_sends}, Global.one_count_more, Look.publish, Pick.count_down, Plays.{first_desk, first_things, IsPlayed}, Send.posted, Thing.{mailbox_of, set_idle, set_mailbox}, Touches.OnlyTouches};
+ghost use Rattle.exec_machine.specs.{declared.{event.Event.TheVariants.{Turn, Serve, Enter, Reap, Sleep, Close, Stop, End}, state.MailMessage.TheVariants.Root, step.{Action.Action as action, Step.Step as step}}, Choice.Payer.ByRequest, Examples.{usual, does, pays}, Logs.a_send, MoreLogs.{a_deadline, a_late_enrolment, deadlines_in_order, the_wheel_goes_round, a_clock_in_a_service, a_clock_between_samples, a_cancel_in_time, parts, what_a_task_held}};
+ghost use Rattle.exec_moves.specs.{declared.{handing.{First.First as first, AfterPop.AfterPop as popped, InPop.InPop as pop}, place.{InPick.InPick as pick, Place.Place as at}}, Cells.Cell.{IdleSet, SearchCount, Inbox}, Claim.latched, Departures.{Departs, two_sends}, Global.one_count_more, Look.publish, Pick.count_down, Plays.{first_desk, first_things, IsPlayed}, Send.posted, Thing.{mailbox_of, set_idle, set_mailbox}, Touches.OnlyTouches};
+ghost use Rattle.exec_words.specs.declared.word.WaitTarget.TheVariants as target;
 
 /// The pick that brings the countdown to its end looks at the global queue first.
 pub fn the_global_look()

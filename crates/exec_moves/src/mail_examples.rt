@@ -4,21 +4,9 @@
 ghost use Rattle.std.specs.Prelude.{◌≡◌, true, false, [], ◌∷◌, ◌++◌, Some, None};
 ghost use Rattle.exec_base.specs.declared.error.{Error.TheVariants.BlobSyncFailed, Cause.TheVariants.Code};
 ghost use Rattle.exec_outcomes.specs.declared.outcome.{OpResult.TheVariants.{Count, Errno}, Outcome.TheVariants.{Success, Failure}};
+ghost use Rattle.exec_machine.specs.{declared.{event.Event.TheVariants.{Turn, Serve, Got, Grant, Send, Rouse}, state.MailMessage.TheVariants.{ForwardRequest, CancelRequest}, step.{Action.Action as action, Step.Step as step}}, World.{no_own, request_of}, Examples.{usual, does}, Logs.{durable_writes, a_stolen_task, a_forward, a_sleeper_elsewhere, the_barrier}, MoreLogs.{sleepers, two_kinds}};
+ghost use Rattle.exec_moves.specs.{declared.{handing.{AfterCancels.AfterCancels as cancels, AfterPush.AfterPush as push, InGlobal.InGlobal as global}, idling.InWordWait.InWordWait as word, place.{InClosing.InClosing as closing, InLoads.InLoads as load, InPick.InPick as pick, InService.InService as service, Round.Round as round, Place.Place as at}}, Callback.first_load, Close.after_close, Departures.{Departs, a_call}, MailLogs.{a_cancel, a_service, after_reaping, leaves_gate, one_written, sends_first, two_writes, with_dedicated}, Pick.begin_turn, Plays.{first_desk, IsPlayed}, Poll.hear_request, Send.spawn, Serve.signal, Slots.{entered, no_slots, vacated}, State.no_word, Submit.try_gate, Told.{in_order, lets_go_requests, told_of_forward}, Wait.read_clock};
 ghost use Rattle.exec_words.specs.declared.word.WaitTarget.TheVariants as target;
-ghost use Rattle.exec_machine.specs.{declared.{event.Event.TheVariants.{Turn, Serve, Got, Grant, Send, Rouse}, state.MailMessage.TheVariants.{ForwardRequest, CancelRequest}}, World.{no_own, request_of}, Examples.{usual, does}, Logs.{durable_writes, a_stolen_task, a_forward, a_sleeper_elsewhere, the_barrier}, MoreLogs.{sleepers, two_kinds}};
-ghost use Rattle.exec_machine.specs.declared.step.Action.TheVariants as action;
-ghost use Rattle.exec_machine.specs.declared.step.Step.TheVariants as step;
-ghost use Rattle.exec_moves.specs.declared.handing.AfterCancels.TheVariants as cancels;
-ghost use Rattle.exec_moves.specs.declared.handing.AfterPush.TheVariants as push;
-ghost use Rattle.exec_moves.specs.declared.handing.InGlobal.TheVariants as global;
-ghost use Rattle.exec_moves.specs.declared.idling.InWordWait.TheVariants as word;
-ghost use Rattle.exec_moves.specs.declared.place.InClosing.TheVariants as closing;
-ghost use Rattle.exec_moves.specs.declared.place.InLoads.TheVariants as load;
-ghost use Rattle.exec_moves.specs.declared.place.InPick.TheVariants as pick;
-ghost use Rattle.exec_moves.specs.declared.place.InService.TheVariants as service;
-ghost use Rattle.exec_moves.specs.declared.place.Round.TheVariants as round;
-ghost use Rattle.exec_moves.specs.declared.place.Place.TheVariants as at;
-ghost use Rattle.exec_moves.specs.{Callback.first_load, Close.after_close, Departures.{Departs, a_call}, MailLogs.{a_cancel, a_service, after_reaping, leaves_gate, one_written, sends_first, two_writes, with_dedicated}, Pick.begin_turn, Plays.{first_desk, IsPlayed}, Poll.hear_request, Send.spawn, Serve.signal, Slots.{entered, no_slots, vacated}, State.no_word, Submit.try_gate, Told.{in_order, lets_go_requests, told_of_forward}, Wait.read_clock};
 
 /// A dedicated worker polls its root alone, looks at its wake word alone, waits without a search, hands what it spawns
 /// to the pool, and closes beside it.

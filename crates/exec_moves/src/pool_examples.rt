@@ -2,14 +2,8 @@
 
 ghost use Rattle.std.specs.Prelude.{◌≡◌, true, false, [], ◌∷◌, ◌++◌, length, Some};
 ghost use Rattle.exec_words.specs.Examples.{five, full};
-ghost use Rattle.exec_machine.specs.{declared.{event.Event.TheVariants.{Turn, Begin, Spawn, Clear, Apply, Rouse, Return}, state.MailMessage.TheVariants.Root}, Choice.Payer.ByAct, Examples.{usual, says, does, posts}, MoreLogs.{wakes_of_roots, closed, a_busy_ring}};
-ghost use Rattle.exec_machine.specs.declared.step.Action.TheVariants as action;
-ghost use Rattle.exec_machine.specs.declared.step.Step.TheVariants as step;
-ghost use Rattle.exec_moves.specs.declared.handing.AfterPush.TheVariants as push;
-ghost use Rattle.exec_moves.specs.declared.handing.InPush.TheVariants as pushes;
-ghost use Rattle.exec_moves.specs.declared.idling.InScan.TheVariants as scan;
-ghost use Rattle.exec_moves.specs.declared.place.Place.TheVariants as at;
-ghost use Rattle.exec_moves.specs.{Pop.shard_count, Push.{load_push_head, flow_over}, Search.claim_half, State.{no_wake_poll, told_once, dropped}, Plays.{first_desk, IsPlayed}, Departures.{Departs, a_call}, PoolLogs.{a_spawn_beside_the_look, a_worker_is_roused, a_steal, a_wake_in_a_poll, two_close, a_claim_beside_the_last_look}};
+ghost use Rattle.exec_machine.specs.{declared.{event.Event.TheVariants.{Turn, Begin, Spawn, Clear, Apply, Rouse, Return}, state.MailMessage.TheVariants.Root, step.{Action.Action as action, Step.Step as step}}, Choice.Payer.ByAct, Examples.{usual, says, does, posts}, MoreLogs.{wakes_of_roots, closed, a_busy_ring}};
+ghost use Rattle.exec_moves.specs.{declared.{handing.{AfterPush.AfterPush as push, InPush.InPush as pushes}, idling.InScan.InScan as scan, place.Place.Place as at}, Pop.shard_count, Push.{load_push_head, flow_over}, Search.claim_half, State.{no_wake_poll, told_once, dropped}, Plays.{first_desk, IsPlayed}, Departures.{Departs, a_call}, PoolLogs.{a_spawn_beside_the_look, a_worker_is_roused, a_steal, a_wake_in_a_poll, two_close, a_claim_beside_the_last_look}};
 
 /// The task set has four shards for each worker of the next power of two.
 pub fn shards()

@@ -1,34 +1,11 @@
 -- A step sees the one shared thing that its place names.
 use Rattle.std.proofs.{Common.{◌≡◌, ℕ, zero, suc, Bool, true, false, ◌==◌, List, [], ◌∷◌, length, Option, Some, None, refl, sym, arith, ap, ◌∙◌, ◌+◌, if◌then◌else◌, slice_set, slice_index_or}, lemmas.{Bool.{false≢true, eq-eqb, eqb-true}, List.{length-append, length-set}}}
-use Rattle.exec_words.specs.{Idle.Idle, Queue.Queue, declared.{word.PureWord.PureWord}}
-use Rattle.exec_machine.specs.{declared.{config.{Configuration.Configuration, ScriptWord.ScriptWord}, event.Event.Event, state.{MailMessage.MailMessage, RequestPhase.RequestPhase}, step.Action.Action}, World.{Common, Task, task_of, request_of, Own as Books}, Choice.Choice, Words.next_word}
-use Rattle.exec_machine.specs.declared.config.ScriptWord.TheVariants as script
-use Rattle.exec_machine.specs.declared.state.RequestPhase.TheVariants as phase
-use Rattle.exec_machine.specs.declared.step.Action.TheVariants as action
-use Rattle.exec_moves.specs.{declared.{handing.{AfterCallbacks.AfterCallbacks, AfterSend.AfterSend, CallPlace.CallPlace}, place.{Service.Service, Place.Place}}, State.{Desk, Things, WakePoll, Moved, queue_of, word_of, inbox_of, wake_poll_of, gate_of, no_queue, no_word, no_wake_poll}, Told.{has_number, in_order}, Touches.shard_at, Cells.{Cell, Cell.{RunQueue, Share, WakeWord, Ring as RingOf, Inbox, GlobalQueue, IdleSet, SearchCount, Rest, Shard, Barrier, Gate, Answer, Alarm, Phase}, names, names_at, names_of_item, names_of_due, names_in_act, names_to_wake, names_by_call, names_by_caller, names_to_wake_by_call}, Thing.{puts, call_puts, mailbox_of, ring_of, set_queue, set_queues, set_word, set_inbox, set_mailbox, set_wake_poll, set_ring, set_global, set_idle, set_barrier, set_shard, set_gate, set_answers, set_alarms, aside, with_queue, with_queues, with_word, with_inbox, with_mailbox, with_wake_poll, with_ring, with_global, with_barrier, with_shard, with_gate, with_answers}, Move.{move, move_at, move_act, move_wake, move_look_at, move_item, move_submit}, MoveOfCaller.{move_of_caller, call_wake, call_on}}
-use Rattle.exec_moves.specs.{Pick.{Queues, load_mirror, load_head, take_share}, Pop.{shard_count, pops, load_pop_head, exchange_pop}, Push.{load_push_head, store_value, flow_over, store_oldest}, Global.{append}, Claim.{Claimed, Claimed.{Worker, Again, Nobody}, claimed, idle_after, set_latch, raise}, Send.{Mailbox, wake_own_root, spawn, send_root, send_message, first_letter, send_cancel}, Callback.{Item, Item.{Completes, Answers}, item_next}, Load.{load_own_head, load_own_mirror, load_own_word}, Serve.{Ring, sample, reap, pass_permit, signal, raise_in_service, enter_last}, Submit.{Due, Due.{Expires, Enrols, AtGate}, due_next, try_gate, stage_next}, Mail.{load_mail_word, take_mail}, Search.{load_scan_head, from_of, load_their_head, load_their_tail, claim_half, release_half, store_moved}, Look.{look_at_mirror, look_at_head, look_at_tail}, Wait.{enter_full_ring, arm_ring, enter_ring, sleep_on_ring, disarm_ring, spin_on_batch, spin_on_latch, take_latch, arm_word, sleep_on_word, disarm_word}, Poll.{Sight, Sight.{Here, Asks, HearsRequest, HearsTimer}, sight_of, sight_of_act, resume, act, heard_by, join_gate, load_spawn_head, remove_task}, Close.{close_queue, open_barrier, visit, leave_barrier, close_mailbox}}
-use Rattle.exec_moves.specs.Call.{CallDesk, Called, spawn as call_spawned, send_root as call_send, append as call_append, set_latch as call_latch, raise as call_raise}
-use Rattle.exec_moves.specs.declared.handing.AfterSend.TheVariants as send
-use Rattle.exec_moves.specs.declared.handing.CallPlace.TheVariants as call
-use Rattle.exec_moves.specs.declared.handing.InGlobal.TheVariants as global
-use Rattle.exec_moves.specs.declared.handing.InKick.TheVariants as kick
-use Rattle.exec_moves.specs.declared.handing.InPop.TheVariants as pop
-use Rattle.exec_moves.specs.declared.handing.InPush.TheVariants as push
-use Rattle.exec_moves.specs.declared.handing.InSignal.TheVariants as signals
-use Rattle.exec_moves.specs.declared.idling.InLook.TheVariants as look
-use Rattle.exec_moves.specs.declared.idling.InRingWait.TheVariants as ring
-use Rattle.exec_moves.specs.declared.idling.InScan.TheVariants as scan
-use Rattle.exec_moves.specs.declared.idling.InSearch.TheVariants as search_at
-use Rattle.exec_moves.specs.declared.idling.InWordWait.TheVariants as word
-use Rattle.exec_moves.specs.declared.place.InPick.TheVariants as pick
-use Rattle.exec_moves.specs.declared.place.InPoll.TheVariants as poll
-use Rattle.exec_moves.specs.declared.place.InCallbacks.TheVariants as callback
-use Rattle.exec_moves.specs.declared.place.InLoads.TheVariants as load
-use Rattle.exec_moves.specs.declared.place.InService.TheVariants as step
-use Rattle.exec_moves.specs.declared.place.InMail.TheVariants as mail
-use Rattle.exec_moves.specs.declared.place.InClosing.TheVariants as closing
-use Rattle.exec_moves.specs.declared.place.Place.TheVariants as at
+use Rattle.exec_words.specs.{Idle.Idle, Queue.Queue, declared.word.PureWord.PureWord}
+use Rattle.exec_machine.specs.{declared.{config.{Configuration.Configuration, ScriptWord.{ScriptWord, ScriptWord as script}}, event.Event.Event, state.{MailMessage.MailMessage, RequestPhase.{RequestPhase, RequestPhase as phase}}, step.Action.{Action, Action as action}}, World.{Common, Task, task_of, request_of, Own as Books}, Choice.Choice, Words.next_word}
+use Rattle.exec_moves.specs.{declared.{handing.{AfterCallbacks.AfterCallbacks, AfterSend.{AfterSend, AfterSend as send}, CallPlace.{CallPlace, CallPlace as call}, InKick.InKick as kick, InPop.InPop as pop, InPush.InPush as push, InSignal.InSignal as signals}, place.{Service.Service, Place.{Place, Place as at}, InPick.InPick as pick, InPoll.InPoll as poll, InCallbacks.InCallbacks as callback, InLoads.InLoads as load, InService.InService as step, InMail.InMail as mail, InClosing.InClosing as closing}, idling.{InLook.InLook as look, InScan.InScan as scan, InSearch.InSearch as search_at, InWordWait.InWordWait as word}}, State.{Desk, Things, WakePoll, Moved, queue_of, word_of, inbox_of, wake_poll_of, gate_of, no_queue, no_word, no_wake_poll}, Told.{has_number, in_order}, Touches.shard_at, Cells.{Cell, Cell.{RunQueue, Share, WakeWord, Ring as RingOf, Inbox, GlobalQueue, IdleSet, SearchCount, Rest, Shard, Barrier, Gate, Answer, Alarm, Phase}, names, names_at, names_of_item, names_of_due, names_in_act, names_to_wake, names_by_call, names_by_caller, names_to_wake_by_call}, Thing.{puts, call_puts, mailbox_of, ring_of, set_queue, set_queues, set_word, set_inbox, set_mailbox, set_wake_poll, set_ring, set_global, set_idle, set_barrier, set_shard, set_gate, set_answers, set_alarms, aside, with_queue, with_queues, with_word, with_inbox, with_mailbox, with_wake_poll, with_ring, with_global, with_barrier, with_shard, with_gate, with_answers}, Move.{move, move_at, move_act, move_wake, move_look_at, move_item, move_submit}, MoveOfCaller.{move_of_caller, call_wake, call_on}, Pick.{Queues, load_mirror, load_head, take_share}, Pop.{shard_count, pops, load_pop_head, exchange_pop}, Push.{load_push_head, store_value, flow_over, store_oldest}, Global.append, Claim.{Claimed, Claimed.{Worker, Again, Nobody}, claimed, idle_after, set_latch, raise}, Send.{Mailbox, wake_own_root, spawn, send_root, send_message, first_letter, send_cancel}, Callback.{Item, Item.{Completes, Answers}, item_next}, Load.{load_own_head, load_own_mirror, load_own_word}, Serve.{Ring, sample, reap, pass_permit, signal, raise_in_service, enter_last}, Submit.{Due, Due.{Expires, Enrols, AtGate}, due_next, try_gate, stage_next}, Mail.{load_mail_word, take_mail}, Search.{load_scan_head, from_of, load_their_head, load_their_tail, claim_half, release_half, store_moved}, Look.{look_at_mirror, look_at_head, look_at_tail}, Wait.{enter_full_ring, arm_ring, enter_ring, sleep_on_ring, disarm_ring, spin_on_batch, spin_on_latch, take_latch, arm_word, sleep_on_word, disarm_word}, Poll.{Sight, Sight.{Here, Asks, HearsRequest, HearsTimer}, sight_of, sight_of_act, resume, act, heard_by, join_gate, load_spawn_head, remove_task}, Close.{close_queue, open_barrier, visit, leave_barrier, close_mailbox}, Call.{CallDesk, Called, spawn as call_spawned, send_root as call_send, append as call_append, set_latch as call_latch, raise as call_raise}}
 use Rattle.exec_moves_laws.specs.Sees.{AreAsMany, LooksAlike, GoesAlike, CallsAlike}
+use Rattle.exec_moves.specs.declared.handing.InGlobal.TheVariants as global
+use Rattle.exec_moves.specs.declared.idling.InRingWait.TheVariants as ring
 
 -- EACH THING PUT INTO BOTH
 

@@ -1,6 +1,5 @@
 -- A place in the line of an open that was made, and given up again.
-use Rattle.std.proofs.Common.{◌≡◌, ℕ, ◌+◌, ◌-◌, ◌<◌, zero, suc, List, [], ◌∷◌, set, slice_get, Option, Some, None, refl, ap, arith}
-use Rattle.std.specs.Option.{IfSome}
+use Rattle.std.{proofs.Common.{◌≡◌, ℕ, ◌+◌, ◌-◌, ◌<◌, zero, suc, List, [], ◌∷◌, set, slice_get, Option, Some, None, refl, ap, arith}, specs.Option.IfSome}
 use Rattle.exec_opens.specs.Opens.{OpenState, open_at, open_named, with_open, with_open_in, with_named, placed, displaced}
 
 pub set_there : (opens : List OpenState) (file : ℕ) (o o' : OpenState) → slice_get opens file ≡ Some o → slice_get (set opens file o') file ≡ Some o'

@@ -1,6 +1,5 @@
 -- The opens that workers share, by number: for each the line at its gate, and what is kept of it.
-use Rattle.std.specs.Prelude.{ℕ, ◌+◌, ◌-◌, ◌++◌, List, [], ◌∷◌, drop, Option, Some, None, is_none, slice_get, slice_set, if◌then◌else◌}
-use Rattle.std.specs.Option.{option_map}
+use Rattle.std.specs.{Prelude.{ℕ, ◌+◌, ◌-◌, ◌++◌, List, [], ◌∷◌, drop, Option, Some, None, is_none, slice_get, slice_set, if◌then◌else◌}, Option.option_map}
 use Rattle.exec_outcomes.specs.Accounts.{Account, changed, fresh_account}
 use Rattle.exec_opens.specs.declared.opens.WaiterKey.{WaiterKey}
 

@@ -60,12 +60,6 @@ impl Open {
         }
     }
 
-    fn account(&self) -> Option<OpenRecord>
-        ensures { result ≡ self.now.account }
-    {
-        self.account
-    }
-
     fn set_account(&mut self, account: Option<OpenRecord>)
         ensures { self.new ≡ keeping account self.old }
     {
@@ -97,12 +91,6 @@ impl Open {
         self.coming -= 1;
     }
 
-    fn has_place(&self) -> bool
-        ensures { IsTrue result ↔ (0 < self.now.coming) }
-    {
-        self.coming > 0
-    }
-
     fn join(&mut self, key: WaiterKey)
         requires made { 0 < self.old.coming }
         ensures { self.new ≡ joined key self.old }
@@ -116,12 +104,6 @@ impl Open {
         ensures left { self.new ≡ passed self.old }
     {
         self.gate.leave()
-    }
-
-    fn holder(&self) -> Option<WaiterKey>
-        ensures { result ≡ self.now.holder }
-    {
-        self.gate.holder()
     }
 }
 
@@ -163,10 +145,7 @@ impl Opens {
     pub fn account(&self, file: Option<u32>) -> Option<OpenRecord>
         ensures { result ≡ account_in self.now file }
     {
-        match self.opens.get(file? as usize) {
-            Some(open_) => open_.account(),
-            None => None,
-        }
+        self.opens.get(file? as usize)?.account
     }
 
     /// The record of an open is this from now on. Nothing changes where there is no such open, or none is named.
@@ -227,7 +206,7 @@ impl Opens {
         ensures { IsTrue result ↔ IfSome (open_at self.now file) (λ o. 0 < o.coming) }
     {
         match self.opens.get(file as usize) {
-            Some(open_) => open_.has_place(),
+            Some(open_) => open_.coming > 0,
             None => true,
         }
     }
@@ -262,9 +241,6 @@ impl Opens {
     pub fn holder(&self, file: u32) -> Option<WaiterKey>
         ensures { result ≡ holder_at self.now file }
     {
-        match self.opens.get(file as usize) {
-            Some(open_) => open_.holder(),
-            None => None,
-        }
+        self.opens.get(file as usize)?.gate.holder()
     }
 }

@@ -1,13 +1,6 @@
 -- What one more result makes of a list of results.
-use Rattle.std.proofs.Common.{◌≡◌, ℕ, ◌+◌, Bool, true, false, not, ◌&&◌, List, [], ◌∷◌, ◌++◌, Option, Some, None, is_some, find, refl, sym, ◌∙◌, ap, inl, inr, ◌⊎◌, subst, if◌then◌else◌, arith}
-use Rattle.std.specs.List.{list_any, after_first}
-use Rattle.std.proofs.lemmas.Bool.{and_parts, cases_Bool}
-use Rattle.std.proofs.lemmas.List.Folds.{list_any-append}
-use Rattle.std.proofs.lemmas.List.Sums.{sum_by-append}
-use Rattle.exec_outcomes.{specs.declared.outcome.Kind.Kind, proofs.Totals.{find-after_none, find-after_some, after_first-none, last_is_cancelled-push, lasting-push, second_undecided, totals-push, by_totals, by_totals-none, later-push, by_totals-some}}
-use Rattle.exec_outcomes.specs.declared.outcome.OpResult.{OpResult}
-use Rattle.exec_outcomes.specs.declared.outcome.Judged.{Judged}
-use Rattle.exec_outcomes.specs.Outcomes.{Asked, Part, Cursor, moves_bytes, part_now, counted_for, first_part, second_kind, second_part, refuses_hint, lasting, bytes_of, moved_by, with_totals, results_in, passes_on, stops, outcome_of_part, outcome_of, outcome_next, moves_on, cursor_next, stop_of, present, HasCome}
+use Rattle.std.{proofs.{Common.{◌≡◌, ℕ, ◌+◌, Bool, true, false, not, ◌&&◌, List, [], ◌∷◌, ◌++◌, Option, Some, None, is_some, find, refl, sym, ◌∙◌, ap, inl, inr, ◌⊎◌, subst, if◌then◌else◌, arith}, lemmas.{Bool.{and_parts, cases_Bool}, List.{Folds.list_any-append, Sums.sum_by-append}}}, specs.List.{list_any, after_first}}
+use Rattle.exec_outcomes.{specs.{declared.outcome.{Kind.Kind, OpResult.OpResult, Judged.Judged}, Outcomes.{Asked, Part, Cursor, moves_bytes, part_now, counted_for, first_part, second_kind, second_part, refuses_hint, lasting, bytes_of, moved_by, with_totals, results_in, passes_on, stops, outcome_of_part, outcome_of, outcome_next, moves_on, cursor_next, stop_of, present, HasCome}}, proofs.Totals.{find-after_none, find-after_some, after_first-none, last_is_cancelled-push, lasting-push, second_undecided, totals-push, by_totals, by_totals-none, later-push, by_totals-some}}
 
 -- the outcome that one more result gives, by the part in which it comes
 module _ (asked : Asked) (cursor : Cursor) (results : List Judged) (r : Judged) (come : HasCome asked cursor results) (allowed : r.hinted ≡ true → cursor.hinted ≡ true) where

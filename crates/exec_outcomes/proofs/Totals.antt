@@ -1,14 +1,6 @@
 -- The results that say something, with how much the ones before them moved, as one more comes.
-use Rattle.std.proofs.Common.{◌≡◌, ℕ, ◌+◌, Bool, true, false, cond, not, ◌||◌, List, [], ◌∷◌, ◌++◌, Option, Some, None, find, filter, refl, sym, ◌∙◌, ap, add-zero, arith, zero-add, inl, inr, subst, if◌then◌else◌}
-use Rattle.std.specs.List.{list_any, after_first}
-use Rattle.std.proofs.lemmas.Bool.{or_parts, cases_Bool}
-use Rattle.std.proofs.lemmas.List.Folds.{find-append}
-use Rattle.std.proofs.lemmas.List.Elements.{filter-append}
-use Rattle.std.proofs.lemmas.List.Sums.{sum_by-cons}
-use Rattle.exec_outcomes.specs.declared.outcome.Kind.{Kind}
-use Rattle.exec_outcomes.specs.declared.outcome.Judged.{Judged}
-use Rattle.exec_outcomes.specs.declared.outcome.Outcome.{Outcome}
-use Rattle.exec_outcomes.specs.Outcomes.{Asked, Cursor, first_part, second_kind, second_part, is_transient, refuses_hint, without_first, lasting, bytes_of, moved_by, with_totals, results_in, decides, passes_on, stops, verdict, last_is_cancelled, outcome_by, outcome_of_part, outcome_by_stop, HasCome}
+use Rattle.std.{proofs.{Common.{◌≡◌, ℕ, ◌+◌, Bool, true, false, cond, not, ◌||◌, List, [], ◌∷◌, ◌++◌, Option, Some, None, find, filter, refl, sym, ◌∙◌, ap, add-zero, arith, zero-add, inl, inr, subst, if◌then◌else◌}, lemmas.{Bool.{or_parts, cases_Bool}, List.{Folds.find-append, Elements.filter-append, Sums.sum_by-cons}}}, specs.List.{list_any, after_first}}
+use Rattle.exec_outcomes.specs.{declared.outcome.{Kind.Kind, Judged.Judged, Outcome.Outcome}, Outcomes.{Asked, Cursor, first_part, second_kind, second_part, is_transient, refuses_hint, without_first, lasting, bytes_of, moved_by, with_totals, results_in, decides, passes_on, stops, verdict, last_is_cancelled, outcome_by, outcome_of_part, outcome_by_stop, HasCome}}
 
 with_totals-append : (before : ℕ) (xs ys : List Judged) → with_totals before (xs ++ ys) ≡ with_totals before xs ++ with_totals (before + moved_by xs) ys
 with_totals-append before [] ys = ap (λ n. with_totals n ys) (sym (add-zero before))

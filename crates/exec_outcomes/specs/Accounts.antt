@@ -1,11 +1,7 @@
 -- What an open's record says of its durability, and what an ended request makes of it.
 use Rattle.std.specs.Prelude.{ℕ, Bool, true, false, not, ◌+◌, ◌-◌, ◌^◌, ◌==◌, ◌||◌, ◌&&◌, Option, Some, None, is_none, unwrap_or, if◌then◌else◌, min, max}
-use Rattle.exec_base.specs.declared.error.Error.{Error}
-use Rattle.exec_base.specs.declared.error.Error.TheVariants.{Io, BlobSyncFailed}
-use Rattle.exec_outcomes.specs.declared.outcome.Kind.{Kind}
-use Rattle.exec_outcomes.specs.declared.outcome.Kind.TheVariants.{Write, Dsync, Many, Sync}
-use Rattle.exec_outcomes.specs.declared.outcome.Outcome.{Outcome}
-use Rattle.exec_outcomes.specs.declared.outcome.Outcome.TheVariants.{Success, Failure}
+use Rattle.exec_base.specs.declared.error.Error.{Error, TheVariants.{Io, BlobSyncFailed}}
+use Rattle.exec_outcomes.specs.declared.outcome.{Kind.{Kind, TheVariants.{Write, Dsync, Many, Sync}}, Outcome.{Outcome, TheVariants.{Success, Failure}}}
 
 -- How many changes the file had, how many of them a sync has covered, the first failure of a sync, and whether
 -- operations may still have the hint.

@@ -1,10 +1,6 @@
 -- Which results a kernel may give for an operation.
 use Rattle.std.specs.Prelude.{ℕ, Bool, ◌&&◌, ◌^◌, ◌+◌, ◌-◌, ◌*◌, ◌/◌, nat_le, min}
-use Rattle.exec_outcomes.specs.declared.outcome.Kind.{Kind}
-use Rattle.exec_outcomes.specs.declared.outcome.Kind.TheVariants.{Poll, Connect, Sync, Direct}
-use Rattle.exec_outcomes.specs.declared.outcome.OpResult.{OpResult}
-use Rattle.exec_outcomes.specs.declared.outcome.OpResult.TheVariants.{Count, Errno}
-use Rattle.exec_outcomes.specs.Outcomes.{Asked, Cursor, part_now}
+use Rattle.exec_outcomes.specs.{declared.outcome.{Kind.{Kind, TheVariants.{Poll, Connect, Sync, Direct}}, OpResult.{OpResult, TheVariants.{Count, Errno}}}, Outcomes.{Asked, Cursor, part_now}}
 
 -- whole pages of 4,096 bytes, as many as so many bytes need
 abbrev pub aligned : ℕ → ℕ

@@ -1,16 +1,7 @@
 -- What a list of results means for a request.
-use Rattle.std.specs.Prelude.{ℕ, Bool, true, false, not, ◌+◌, ◌%◌, ◌==◌, ◌||◌, ◌&&◌, ◌≡◌, List, [], ◌∷◌, Option, Some, None, is_some, if◌then◌else◌, nat_le, nat_lt, filter, find, map, sum_by}
-use Rattle.std.specs.List.{list_any, after_first}
-use Rattle.exec_base.specs.declared.error.Error.{Error}
-use Rattle.exec_base.specs.declared.error.Error.TheVariants.{Timeout, SendFailed, RecvFailed, ReadFailed, WriteFailed, ConnectionFailed, BlobInsufficientLength, Io}
-use Rattle.exec_base.specs.declared.error.Cause.TheVariants.{Code}
-use Rattle.exec_outcomes.specs.declared.outcome.Kind.{Kind}
-use Rattle.exec_outcomes.specs.declared.outcome.Kind.TheVariants.{Poll, Send, Recv, Fill, Connect, Read, Hint, Direct, Write, Dsync, Many, Sync}
-use Rattle.exec_outcomes.specs.declared.outcome.OpResult.{OpResult}
-use Rattle.exec_outcomes.specs.declared.outcome.OpResult.TheVariants.{Count, Errno}
-use Rattle.exec_outcomes.specs.declared.outcome.Judged.{Judged}
-use Rattle.exec_outcomes.specs.declared.outcome.Outcome.{Outcome}
-use Rattle.exec_outcomes.specs.declared.outcome.Outcome.TheVariants.{Success, Failure}
+use Rattle.std.specs.{Prelude.{ℕ, Bool, true, false, not, ◌+◌, ◌%◌, ◌==◌, ◌||◌, ◌&&◌, ◌≡◌, List, [], ◌∷◌, Option, Some, None, is_some, if◌then◌else◌, nat_le, nat_lt, filter, find, map, sum_by}, List.{list_any, after_first}}
+use Rattle.exec_base.specs.declared.error.{Error.{Error, TheVariants.{Timeout, SendFailed, RecvFailed, ReadFailed, WriteFailed, ConnectionFailed, BlobInsufficientLength, Io}}, Cause.TheVariants.Code}
+use Rattle.exec_outcomes.specs.declared.outcome.{Kind.{Kind, TheVariants.{Poll, Send, Recv, Fill, Connect, Read, Hint, Direct, Write, Dsync, Many, Sync}}, OpResult.{OpResult, TheVariants.{Count, Errno}}, Judged.Judged, Outcome.{Outcome, TheVariants.{Success, Failure}}}
 
 -- What a request asks for, as far as its results go: how many bytes it moves (a connect, a poll and a sync move
 -- none, and count as 1), and how many lie before them in the aligned range of a direct read (none for all others).

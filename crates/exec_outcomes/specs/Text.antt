@@ -1,13 +1,7 @@
 -- How results and outcomes are written.
-use Rattle.std.specs.Prelude.{ℕ, List, ◌∷◌, codes}
-use Rattle.std.specs.Fmt.{decimal}
+use Rattle.std.specs.{Prelude.{ℕ, List, ◌∷◌, codes}, Fmt.decimal}
 use Rattle.exec_base.specs.Error.{word_of}
-use Rattle.exec_outcomes.specs.declared.outcome.Kind.{Kind}
-use Rattle.exec_outcomes.specs.declared.outcome.Kind.TheVariants.{Poll, Send, Recv, Fill, Connect, Read, Hint, Direct, Write, Dsync, Many, Sync}
-use Rattle.exec_outcomes.specs.declared.outcome.OpResult.{OpResult}
-use Rattle.exec_outcomes.specs.declared.outcome.OpResult.TheVariants.{Count, Errno}
-use Rattle.exec_outcomes.specs.declared.outcome.Outcome.{Outcome}
-use Rattle.exec_outcomes.specs.declared.outcome.Outcome.TheVariants.{Success, Failure}
+use Rattle.exec_outcomes.specs.declared.outcome.{Kind.{Kind, TheVariants.{Poll, Send, Recv, Fill, Connect, Read, Hint, Direct, Write, Dsync, Many, Sync}}, OpResult.{OpResult, TheVariants.{Count, Errno}}, Outcome.{Outcome, TheVariants.{Success, Failure}}}
 
 -- the script word that makes such a request
 abbrev pub text_of_kind : Kind → List ℕ

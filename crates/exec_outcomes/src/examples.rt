@@ -1,14 +1,8 @@
 //! Worked examples of what results mean.
 
 ghost use Rattle.std.specs.Prelude.{◌≡◌, ◌≢◌, true, false, [], ◌∷◌, Some, None};
-ghost use Rattle.exec_base.specs.declared.error.Error.TheVariants.{Timeout, SendFailed, RecvFailed, ReadFailed, WriteFailed, ConnectionFailed, BlobInsufficientLength, Io, BlobSyncFailed};
-ghost use Rattle.exec_base.specs.declared.error.Cause.TheVariants.{Code};
-ghost use Rattle.exec_outcomes.specs.Accounts.{fresh_account, changed, account_after, outcome_told, outcome_at_grant, is_dirty};
-ghost use Rattle.exec_outcomes.specs.Lawful.{is_lawful, window_of};
-ghost use Rattle.exec_outcomes.specs.Outcomes.{outcome_of, plainly, once_cancelled, with_hint, at_the_start};
-ghost use Rattle.exec_outcomes.specs.declared.outcome.Kind.TheVariants.{Poll, Send, Recv, Fill, Connect, Read, Hint, Direct, Write, Dsync, Many, Sync};
-ghost use Rattle.exec_outcomes.specs.declared.outcome.OpResult.TheVariants.{Count, Errno};
-ghost use Rattle.exec_outcomes.specs.declared.outcome.Outcome.TheVariants.{Failure, Success};
+ghost use Rattle.exec_base.specs.declared.error.{Error.TheVariants.{Timeout, SendFailed, RecvFailed, ReadFailed, WriteFailed, ConnectionFailed, BlobInsufficientLength, Io, BlobSyncFailed}, Cause.TheVariants.Code};
+ghost use Rattle.exec_outcomes.specs.{Accounts.{fresh_account, changed, account_after, outcome_told, outcome_at_grant, is_dirty}, Lawful.{is_lawful, window_of}, Outcomes.{outcome_of, plainly, once_cancelled, with_hint, at_the_start}, declared.outcome.{Kind.TheVariants.{Poll, Send, Recv, Fill, Connect, Read, Hint, Direct, Write, Dsync, Many, Sync}, OpResult.TheVariants.{Count, Errno}, Outcome.TheVariants.{Failure, Success}}};
 
 /// Sends of 10 bytes.
 pub fn sends_of_ten_bytes()

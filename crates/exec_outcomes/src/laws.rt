@@ -1,8 +1,7 @@
 //! Laws of the meaning of results.
 
 ghost use Rattle.std.specs.Prelude.{◌≡◌, false, true, List, [], ◌∷◌, ◌++◌, None};
-ghost use Rattle.exec_outcomes.specs.Outcomes.{Asked, Cursor, HasCome, at_the_start, cursor_next, outcome_next, outcome_of};
-ghost use Rattle.exec_outcomes.specs.declared.outcome.Judged.{Judged};
+ghost use Rattle.exec_outcomes.specs.{Outcomes.{Asked, Cursor, HasCome, at_the_start, cursor_next, outcome_next, outcome_of}, declared.outcome.Judged.Judged};
 
 /// Of the results so far only the cursor counts for what one more result means, so a request needs to keep no
 /// more of them: the bytes that its present part moved, which part that is, and whether a hint may still be

@@ -1,19 +1,9 @@
 -- Small facts that many proofs cite: of numbers, tests, what is there, and names.
-use Rattle.std.proofs.{Common.{⊎_elim, sym, ◌≢◌, ◌≡◌, ℕ, zero, suc, [], ◌∷◌, ◌==◌, ◌&&◌, Bool, true, false, List, Option, Some, None, is_some, slice_get, slice_set, refl, ap, ◌∙◌, arith, length, ◌<◌}, lemmas.{Bool.{cases_eq, false≢true, eq-eqb, Decides.nat_tests}, List.{get_or-set_same, length-set}, Option.{slice_get_within, slice_get-get_or}}}
+use Rattle.std.proofs.{Common.{⊎_elim, inl, inr, sym, ◌≢◌, ◌≡◌, ℕ, suc, [], ◌∷◌, ◌==◌, ◌&&◌, Bool, true, false, List, Option, Some, None, is_some, slice_get, slice_set, refl, ap, ◌∙◌, arith, length, ◌<◌}, lemmas.{Bool.{cases_eq, false≢true, eq-eqb, Decides.nat_tests}, List.{get_or-set_same, length-set}, Option.{slice_get_within, slice_get-get_or, slice_get_cases}}}
 use Rattle.exec_base.{specs.declared.slab.Id.Id, proofs.Slots.id_cases}
 use Rattle.exec_waiters.specs.declared.waiter_id.WaiterId.{WaiterId}
 use Rattle.exec_lists.specs.Lists.{is_same}
-pub use Rattle.std.proofs.lemmas.{Option.same_Some, Bool.{or_right, or_left, and_parts, and_from, and_right, not-true, not-false, false_from_ne_true}}
-
--- NUMBERS
-
-pub same_number : (a b : ℕ) → (a == b) ≡ true → a ≡ b
-same_number a b h = grind (arith, nat_tests)
-
-pub not_same : (a b : ℕ) → (a ≡ b → ⊥) → (a == b) ≡ false
-not_same a b apart = grind (arith, nat_tests)
-
--- TESTS
+pub use Rattle.std.proofs.lemmas.{Option.same_Some, Bool.{eqb-true as same_number, ne_eqb as not_same, or_right, or_left, and_parts, and_from, and_right, not-true, not-false, false_from_ne_true}}
 
 pub second_true : (a b : Bool) → (a && b) ≡ true → b ≡ true
 second_true a b h = grind arith
@@ -36,8 +26,7 @@ set_there xs i x y there =
 -- and at any other place
 pub set_elsewhere : {A : Type 0} (xs : List A) (i k : ℕ) (x : A) → k ≢ i → slice_get (slice_set xs i x) k ≡ slice_get xs k
 set_elsewhere [] i k x other = refl
-set_elsewhere (y ∷ ys) (suc i) (suc k) x other = set_elsewhere ys i k x (λ same. other (ap suc same))
-set_elsewhere (y ∷ ys) i k x other = grind arith
+set_elsewhere (y ∷ ys) i k x other = grind (arith, set_elsewhere ys)
 
 -- by whether a number is another
 pub by_number : {P : Type 0} (k i : ℕ) → (k ≢ i → P) → (k ≡ i → P) → P
@@ -50,17 +39,11 @@ same_self id = rw (eq-eqb id.0.index id.0.index refl, eq-eqb id.0.generation id.
 
 -- by whether a name is another
 pub by_name : {P : Type 0} (x id : Id) → (x ≢ id → P) → (x ≡ id → P) → P
-by_name x id other same =
-    ⊎_elim
-    (λ i. other (λ e. i (ap (λ (y : Id). y.index) e)))
-    (⊎_elim (λ e. other (λ q. e.1 (ap (λ (y : Id). y.generation) q))) same)
-    (id_cases x id)
+by_name x id other same = ⊎_elim (λ i. other (λ e. i (cc))) (⊎_elim (λ e. other (λ q. e.1 (cc))) same) (id_cases x id)
 
 -- what stands within a list
 pub found_within : {A : Type 0} (xs : List A) (i : ℕ) → i < length xs → (x : A) × (slice_get xs i ≡ Some x)
-found_within [] i few = absurd (omega (arith, few))
-found_within (x ∷ xs) zero few = (x, refl)
-found_within (x ∷ xs) (suc i) few = found_within xs i (omega (arith, few))
+found_within xs i few = elim (slice_get_cases xs i).1 [ inl at ↦ (at.0, at.2) | inr past ↦ absurd (omega (arith, few, past.0)) ]
 
 pub true_false : {P : Type 0} → true ≡ false → P
 true_false h = absurd (false≢true (sym h))

@@ -31,7 +31,6 @@ sending_anywhere hears t of next w p = grind (arith, callback_anywhere)
 -- A MESSAGE can take effect, whatever is left of its batch
 
 pub take_so : {B : Type 0} (m : MailMessage) (w : Worker) (batch : Reserved (Message Subject Subject)) (s : Shared B) → MayTake m w s → MayTake m (record w { batch = batch }) s
-take_so MailMessage.Root w batch s may = may
 take_so (MailMessage.ForwardRequest k) w batch s may = (may.0, λ r at. let f = may.1 r at in record { t = f.t; waited = f.waited; small = f.small; room = f.room })
 take_so (MailMessage.ForwardTimer z) w batch s may = (may.0, λ it at. let f = may.1 it at in record { small = f.small; here = f.here; room = f.room })
 take_so _ w batch s may = grind (arith, may)

@@ -1,12 +1,6 @@
 -- What a task does with the newest request that it holds: it awaits it, or lets go of it.
 use Rattle.std.specs.{Prelude.{◌≡◌, ◌≢◌, ℕ, ◌-◌, ◌++◌, ◌<◌, true, false, length, slice_get, take, slice_set, option_to_list, Option, Some, None, IsSome}, VecDeque.deque_capacity}
-use Rattle.exec_base.specs.Slab.{value_at}
-use Rattle.exec_waiters.specs.{Events.{changed, with_waker, told_by_orphan}, States.is_observed_here, Told.{HasPlaces, Tells}}
-use Rattle.exec_driver.specs.{Driving.request_at, Placed.ListsRequests, Punctual.IsPunctual, Steps.{let_go, told_by_let_go}}
-use Rattle.exec_task.specs.declared.body.Said.{Said}
-use Rattle.exec_machine.specs.{declared.{event.Event.{Event, TheVariants.{Wait, Drop}}, state.{MailMessage.TheVariants.{ForwardRequest, CancelRequest}, Waiting.Waiting}}, Requests.{dropped, ends_by_drop, joined_if}, Tests.is_resolved}
-use Rattle.exec_moves.specs.declared.{handing.AfterSend.AfterSend, place.{InPoll.InPoll, Place.Place}}
-use Rattle.exec_parts.specs.{Records.numbers_held, declared.parts.{record.Record.Record, shared.Shared.Shared, task_slot.TaskSlot.TaskSlot, worker.Worker.Worker}, MailPosts.AsksOutput, Pooled.{MaySend, Sends}, Polls.{IsReady, OfSlot, TookOutput}, View.driver_of, Things.TurnsSlot}
+use Rattle.exec_parts.specs.{Words.{AfterSend, CancelRequest, Drop, Event, ForwardRequest, HasPlaces, InPoll, IsPunctual, ListsRequests, Place, Said, Tells, Wait, Waiting, changed, dropped, ends_by_drop, is_observed_here, is_resolved, joined_if, let_go, request_at, told_by_let_go, told_by_orphan, value_at, with_waker}, Records.numbers_held, declared.parts.{record.Record.Record, shared.Shared.Shared, task_slot.TaskSlot.TaskSlot, worker.Worker.Worker}, MailPosts.AsksOutput, Pooled.{MaySend, Sends}, Polls.{IsReady, OfSlot, TookOutput}, View.driver_of, Things.TurnsSlot}
 
 -- task t waits for it; nobody holds it any more
 abbrev pub awaited_by : ℕ → Record → Record

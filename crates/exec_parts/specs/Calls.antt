@@ -1,10 +1,6 @@
 -- What a callback does to a worker and to what all share.
 use Rattle.std.specs.Prelude.{◌≡◌, ℕ, ◌+◌, ◌≤◌, ◌||◌, not, ◌==◌, if◌then◌else◌, true, List, slice_get, slice_set, Option, Some, None, Result, Err, length}
-use Rattle.exec_base.specs.declared.{error.Error.Error, one_shot.OneShotState.{OneShotState, TheVariants.{Open, Sent as Full, Closed as Shut}}}
-use Rattle.exec_request.specs.declared.output.RequestOutput.{RequestOutput}
-use Rattle.exec_waiters.specs.{Told.HasPlaces, declared.deferred.Deferred.Deferred}
-use Rattle.exec_machine.specs.declared.state.{Forwarding.Forwarding, Waiting.Waiting}
-use Rattle.exec_parts.specs.{declared.parts.{mail.Reply.Reply, record.Record.Record, sleeping.SleeperRecord.SleeperRecord}, Serving.changed_at}
+use Rattle.exec_parts.specs.{Words.{Deferred, Error, Forwarding, Full, HasPlaces, Open, RequestOutput, Shut, Waiting, shot}, declared.parts.{mail.Reply.Reply, record.Record.Record, sleeping.SleeperRecord.SleeperRecord}, Serving.changed_at}
 
 -- one more wake is paid, and what the request owned is let go
 abbrev pub paying : Record → Record
@@ -62,13 +58,8 @@ sleeper_closed z = record z { closed = true }
 abbrev pub sleeper_gone_with : ℕ → SleeperRecord → SleeperRecord
 sleeper_gone_with i z = if z.shown.worker == i then sleeper_removed z else z
 
--- the sleeper that is waited for
-abbrev pub sleeper_in : Waiting → Option ℕ
-sleeper_in (Waiting.Timer z) = Some z
-sleeper_in _ = None
-
 -- what a task hears that looks for an output
-abbrev pub heard_in : OneShotState (Result RequestOutput Error) → Option (Result RequestOutput Error)
+abbrev pub heard_in : shot (Result RequestOutput Error) → Option (Result RequestOutput Error)
 heard_in Open = None
 heard_in (Full output) = Some output
 heard_in Shut = Some (Err Error.Closed)

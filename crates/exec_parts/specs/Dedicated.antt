@@ -1,14 +1,7 @@
 -- A worker that begins, and the making of one for a dedicated task.
 use Rattle.std.specs.Prelude.{◌≡◌, ◌⊎◌, ℕ, ◌+◌, ◌^◌, ◌<◌, ◌≤◌, true, false, [], ◌∷◌, ◌++◌, length, Some, None}
-use Rattle.exec_base.specs.{Spinner.begun, declared.{error.Error.TheVariants.{Closed, NoMemory}, spinner.SpinnerConfig.SpinnerConfig, task_no.TaskNo.TaskNo, one_shot.OneShotState.OneShotState}}
-use Rattle.exec_ring.specs.Stores.{Same}
-use Rattle.exec_waiters.specs.Told.{HasPlaces, is_untold}
-use Rattle.exec_driver.specs.{Punctual.IsPunctual, Steps.IsFresh as IsFreshDriver}
-use Rattle.exec_task.specs.{Phases.runnable_of, declared.{runnable.Runnable.Runnable, task.Phase.TheVariants.Queued, body.Said.Said}}
-use Rattle.exec_machine.specs.{declared.{config.Configuration.Configuration, event.Event.Event, state.Waiting.Waiting}, Ranges.{horizon, ring_size}}
-use Rattle.exec_moves.specs.declared.place.{InPoll.InPoll, Place.Place}
 pub use Rattle.exec_parts.specs.Roles.{MayBegin}
-use Rattle.exec_parts.specs.{declared.parts.{nursery.Nursery.Nursery, role.Role.{Role, TheVariants.Dedicated}, seat.Seat.Seat as Chair, shared.Shared.Shared, task_slot.TaskSlot.TaskSlot, worker.Worker.Worker}, Records.{HasNoNames, IsFreshSeat}, View.driver_of, Things.TurnsSlot}
+use Rattle.exec_parts.specs.{Words.{Closed, Configuration, Event, HasPlaces, InPoll, IsFreshDriver, IsPunctual, NoMemory, Place, Queued, Runnable, Said, Same, SpinnerConfig, TaskNo, Waiting, begun_spinner, horizon, is_untold, ring_size, runnable_of, shot}, declared.parts.{nursery.Nursery.Nursery, role.Role.{Role, TheVariants.Dedicated}, seat.Seat.Seat as Chair, shared.Shared.Shared, task_slot.TaskSlot.TaskSlot, worker.Worker.Worker}, Records.{HasNoNames, IsFreshSeat}, View.driver_of, Things.TurnsSlot}
 
 -- how long it looks before it sleeps
 abbrev pub spins_in : Configuration → SpinnerConfig
@@ -34,7 +27,7 @@ begun_worker c role i root r now w =
       put_off = record { defer = false; «enter» = false };
       batch = record { values = []; places = 1 };
       processed = 0;
-      spinner = begun (spins_in c) c.spin.iterations;
+      spinner = begun_spinner (spins_in c) c.spin.iterations;
       slept = None;
     }
 
@@ -59,7 +52,7 @@ module _ {B : Type 0} where
         body = None;
         told = Some Said.Start;
         waiting = Waiting.Nothing;
-        output = OneShotState.Open;
+        output = shot.Open;
         fresh = false;
         cleared = false;
         home = Some i;

@@ -1,13 +1,7 @@
 -- A task ends: it lets go of all that it holds, the oldest first.
 use Rattle.std.specs.{Prelude.{◌≡◌, ◌≢◌, ℕ, ◌<◌, ◌==◌, ◌&&◌, Bool, not, true, false, List, [], ◌∷◌, filter, length, slice_get, slice_set, Option, Some, None, IsSome, IsTrue, Err, if◌then◌else◌}, VecDeque.deque_capacity}
-use Rattle.exec_base.specs.{Slab.{Slab, live_count, value_at}, declared.{error.Error.TheVariants.Closed, slab.Id.Id}}
-use Rattle.exec_time.specs.{Notes.HasRoom, Sleepers.{Ends, IsLowest}, declared.timers.{Sleeper.Sleeper as Sleeping, TimerId.TimerId}}
-use Rattle.exec_waiters.specs.{Events.{IsFirstHeld, told_by_close}, States.is_held_at, Told.{HasPlaces, Tells}, declared.waiter_id.WaiterId.WaiterId}
-use Rattle.exec_driver.specs.{Driving.Driving, Placed.ListsRequests, Punctual.IsPunctual, Steps.{let_go, told_by_let_go}}
-use Rattle.exec_task.specs.{Phases.{cleared, is_polled, over, pend_answer}, declared.drain.Drain.Drain}
-use Rattle.exec_machine.specs.{declared.{event.Event.{Event, TheVariants.{Turn, Orphan}}, state.Waiting.Waiting}, Requests.{dropped, ends_by_drop, joined_if}}
-use Rattle.exec_moves.specs.{declared.{handing.{AfterCallbacks.AfterCallbacks, AfterCancels.AfterCancels}, place.{InCallbacks.InCallbacks, InClosing.InClosing, Place.Place}}, Parts.cancels_left}
-use Rattle.exec_parts.specs.{declared.parts.{held.Held.Held, mail.Reply.Reply, record.Record.Record, shared.Shared.Shared, sleeping.SleeperRecord.SleeperRecord, task_slot.TaskSlot.TaskSlot, worker.Worker.Worker}, Awaits.{LetsGo, MayLetGo, drops}, Calls.sleeper_closed, MailTakes.{MayRemove, RemovesSleeper}, Phased.is_complete, Polls.{OfSlot, pended_slot}, Pooled.{cleared_slot, queued_again}, Records.{number_in, outcome_in}, Tests.after_poll_of, View.{desk_of, driver_of, letters_in}, Things.TurnsSlot}
+use Rattle.exec_time.specs.{Sleepers.{Ends, IsLowest}, declared.timers.TimerId.TimerId}
+use Rattle.exec_parts.specs.{Words.{AfterCallbacks, AfterCancels, Closed, Drain, Driving, Event, HasPlaces, HasRoom, Id, InClosing, IsFirstHeld, IsPunctual, ListsRequests, Orphan, Place, Slab, Sleeping, Tells, Turn, WaiterId, Waiting, callback, cancels_left, cleared, dropped, ends_by_drop, is_held_at, is_polled, joined_if, let_go, live_count, over, pend_answer, told_by_close, told_by_let_go, value_at}, declared.parts.{held.Held.Held, mail.Reply.Reply, record.Record.Record, shared.Shared.Shared, sleeping.SleeperRecord.SleeperRecord, task_slot.TaskSlot.TaskSlot, worker.Worker.Worker}, Awaits.{LetsGo, MayLetGo, drops}, Calls.sleeper_closed, MailTakes.{MayRemove, RemovesSleeper}, Phased.is_complete, Polls.{OfSlot, pended_slot}, Pooled.{cleared_slot, queued_again}, Records.{number_in, outcome_in}, Tests.after_poll_of, View.{desk_of, driver_of, letters_in}, Things.TurnsSlot}
 
 -- where a worker goes on whose task is over: it closes where that is its root, and any other task leaves the task set once
 -- others were told of what it held
@@ -58,14 +52,6 @@ module _ {B : Type 0} where
   abbrev pub LetsGoAll : List Held → Worker → Worker → Shared B → Shared B → Type 0
   LetsGoAll [] w w' s s' = (w' ≡ w) × (s' ≡ s)
   LetsGoAll (h ∷ hs) w w' s s' = (v : Worker) × (now : Shared B) × LetsGoOne h w v s now × LetsGoAll hs v w' now s'
-
-  -- the requests among its letters, which its task held: what it has of them is let go, and the others are left
-  pub record LetsHeld (w w' : Worker) (s s' : Shared B) : Type 0 where
-    pub v : Worker
-    pub lets : LetsGoAll w.letters.requests.items w v s s'
-    pub requests : w'.letters.requests.items ≡ others_of w.index w.letters.requests.items
-    pub timer : w'.letters.timer ≡ w.letters.timer
-    pub worker : w' ≡ record v { letters = w'.letters }
 
   -- Task t, which is over or will be by this step, can let go of all.
   pub record MayLetGoOf (t : ℕ) (w : Worker) (s : Shared B) : Type 0 where
@@ -148,7 +134,7 @@ module _ {B : Type 0} where
 pub data ClosesOn (d : Driving Reply Reply) (zs : Slab (Sleeping Reply)) (p : Place) : Type 0 where
   holds : (id : Id) → IsFirstHeld d.requests id → p ≡ Place.Closing InClosing.Orphan → ClosesOn d zs p
   sleeps : ((id : Id) → is_held_at (value_at d.requests id) ≡ false) → 0 < live_count zs → p ≡ Place.Closing InClosing.CloseSleeper → ClosesOn d zs p
-  nothing : ((id : Id) → is_held_at (value_at d.requests id) ≡ false) → live_count zs ≡ 0 → p ≡ Place.Callbacks InCallbacks.TakeBatch AfterCallbacks.Drain → ClosesOn d zs p
+  nothing : ((id : Id) → is_held_at (value_at d.requests id) ≡ false) → live_count zs ≡ 0 → p ≡ Place.Callbacks callback.TakeBatch AfterCallbacks.Drain → ClosesOn d zs p
 
 module _ {B : Type 0} where
   pub record MayOrphan (w : Worker) (s : Shared B) : Type 0 where

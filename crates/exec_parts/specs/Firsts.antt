@@ -1,10 +1,7 @@
 -- What workers share before they begin.
 use Rattle.std.specs.Prelude.{◌≡◌, ℕ, false, [], length, replicate}
 use Rattle.exec_opens.specs.Opens.{fresh_open}
-use Rattle.exec_ring.specs.{Sockets.nothing_moved, Stores.{socket_of, store_byte}}
-use Rattle.exec_task.specs.TaskSet.{IsShardCount}
-use Rattle.exec_machine.specs.declared.config.Configuration.{Configuration}
-use Rattle.exec_parts.specs.declared.parts.shared.Shared.{Shared}
+use Rattle.exec_parts.specs.{Words.{Configuration, IsShardCount, nothing_moved, socket_of, store_byte}, declared.parts.shared.Shared.Shared}
 
 module _ {B : Type 0} where
   -- what is shared at first, as far as the lists of it don't tell more

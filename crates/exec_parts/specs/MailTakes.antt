@@ -1,23 +1,6 @@
 -- What messages of other workers do, and what callbacks send to tasks elsewhere.
-use Rattle.std.specs.{Prelude.{◌≡◌, ℕ, ◌+◌, ◌^◌, ◌<◌, ◌==◌, Bool, true, false, not, [], drop, length, map, slice_get, slice_set, Some, None, if◌then◌else◌, Ok, Err}, VecDeque.deque_capacity}
+use Rattle.std.specs.{Prelude.{◌≡◌, ℕ, ◌+◌, ◌^◌, ◌<◌, ◌==◌, Bool, false, not, [], drop, length, map, slice_get, slice_set, Some, None, if◌then◌else◌, Ok, Err}, VecDeque.deque_capacity}
 use Rattle.exec_parts.specs.{Words.{removed, value_at, written, sent, Closed, TaskNo, Adds, HasRoom, completions_of, is_forwarded, ForwardedResult, Forwarded, Sleeping, forwarded, told_by_forward, HasPlaces, Tells, Answer, ListsRequests, IsPunctual, Reserved, Message, is_idle, runnable_of, Runnable, Event, Turn, Wake, Apply, MailMessage, Root, ForwardRequest, ForwardTimer, CancelRequest, CancelTimer, Waiting, AfterCallbacks, AfterPush, Heard, Place, at, callback, after_message}, declared.parts.{mail.{Reply.Reply, Subject.Subject}, record.Record.Record, shared.Shared.Shared, sleeping.SleeperRecord.SleeperRecord, task_slot.TaskSlot.TaskSlot, worker.Worker.Worker}, Awaits.{LetsGo, MayLetGo}, Calls.{IsUnpaid, KeepsRoom, as_sent, forward_applied, records_paid, sleeper_applied, sleeper_removed, sleeper_sent, sleepers_paid}, Phased.is_complete, Polls.OfSlot, Pooled.{WakesOwnRoot, woken_slot}, Tests.{first_push_of, next_callback_of}, View.{driver_of, message_of, number_heard}, Things.TurnsSlot}
-
--- SLEEPERS: nobody waits for it any more
-
-module _ {B : Type 0} where
-  -- sleeper z of the worker can be let go
-  pub record MayRemove (z : ℕ) (w : Worker) (s : Shared B) : Type 0 where
-    pub known : z < length s.sleepers.items
-    pub room : HasRoom w.home.deferred.notes 1
-
-  pub record RemovesSleeper (z : ℕ) (w w' : Worker) (s s' : Shared B) : Type 0 where
-    pub it : SleeperRecord
-    pub sleeper : slice_get s.sleepers.items z ≡ Some it
-    pub bed : (b : Sleeping Reply) → value_at w.home.timers it.id.0 ≡ Some b → (w'.home.timers ≡ removed w.home.timers it.id.0) × Adds w.home.deferred.notes w'.home.deferred.notes [] (completions_of (Err Closed) b.observer)
-    pub gone : value_at w.home.timers it.id.0 ≡ None → (w'.home.timers ≡ w.home.timers) × Adds w.home.deferred.notes w'.home.deferred.notes [] []
-    pub worker : w' ≡ record w { home = record w.home { timers = w'.home.timers; deferred = record w.home.deferred { notes = w'.home.deferred.notes } } }
-    pub sleepers : s'.sleepers.items ≡ slice_set s.sleepers.items z (sleeper_removed it)
-    pub kept : s' ≡ record s { sleepers = s'.sleepers }
 
 -- FORWARDS: the end is sent to task t, which waits elsewhere
 
@@ -65,10 +48,25 @@ thing_heard (Heard.Timer z) = Waiting.Timer z
 
 -- what follows an end that was sent: the wake of its task, where that isn't over
 abbrev pub after_sending_of : Bool → ℕ → Heard → AfterCallbacks → Worker → Place
-after_sending_of true t of next w = at.Callbacks (callback.WakeWaiter t of) next
-after_sending_of false t of next w = next_callback_of next w
+after_sending_of hears t of next w = if hears then at.Callbacks (callback.WakeWaiter t of) next else next_callback_of next w
 
 module _ {B : Type 0} where
+  -- SLEEPERS: nobody waits for it any more
+
+  -- sleeper z of the worker can be let go
+  pub record MayRemove (z : ℕ) (w : Worker) (s : Shared B) : Type 0 where
+    pub known : z < length s.sleepers.items
+    pub room : HasRoom w.home.deferred.notes 1
+
+  pub record RemovesSleeper (z : ℕ) (w w' : Worker) (s s' : Shared B) : Type 0 where
+    pub it : SleeperRecord
+    pub sleeper : slice_get s.sleepers.items z ≡ Some it
+    pub bed : (b : Sleeping Reply) → value_at w.home.timers it.id.0 ≡ Some b → (w'.home.timers ≡ removed w.home.timers it.id.0) × Adds w.home.deferred.notes w'.home.deferred.notes [] (completions_of (Err Closed) b.observer)
+    pub gone : value_at w.home.timers it.id.0 ≡ None → (w'.home.timers ≡ w.home.timers) × Adds w.home.deferred.notes w'.home.deferred.notes [] []
+    pub worker : w' ≡ record w { home = record w.home { timers = w'.home.timers; deferred = record w.home.deferred { notes = w'.home.deferred.notes } } }
+    pub sleepers : s'.sleepers.items ≡ slice_set s.sleepers.items z (sleeper_removed it)
+    pub kept : s' ≡ record s { sleepers = s'.sleepers }
+
   -- A MESSAGE TAKES EFFECT
 
   pub record TakesForward (k : ℕ) (w w' : Worker) (s s' : Shared B) : Type 0 where

@@ -1,11 +1,22 @@
 -- What the steps of a poll do to the slot of the polled task.
 use Rattle.std.specs.Prelude.{◌≡◌, ℕ, ◌-◌, Bool, true, false, List, [], ◌++◌, length, map, is_some, Option, Some, None, IsSome, option_to_list, slice_get, take, slice_set, if◌then◌else◌}
-use Rattle.exec_parts.specs.{Words.{value_at, Outcome, RequestOutput, taken, Ready, Driving, IsPunctual, OpenState, begun, queued_body, pended, woken, Sight, Act, Said, AfterPoll, Runnable, Event, Got, Resolved, Waiting, begun_waiting, InPoll, Place}, Records.numbers_held, declared.parts.{mail.Reply.Reply, record.Record.Record, shared.Shared.Shared, task_slot.TaskSlot.TaskSlot, worker.Worker.Worker}, View.{account_seen, driver_of}}
+use Rattle.exec_parts.specs.{Words.{value_at, Outcome, RequestOutput, taken, Ready, Driving, IsPunctual, OpenState, begun, queued_body, pended, Sight, Act, Said, AfterPoll, Runnable, Event, Got, Resolved, Waiting, begun_waiting, InPoll, Place}, Pooled.woken_slot, Records.numbers_held, declared.parts.{mail.Reply.Reply, record.Record.Record, shared.Shared.Shared, task_slot.TaskSlot.TaskSlot, worker.Worker.Worker}, View.{account_seen, driver_of}}
 
 -- a runnable that comes back goes into the flag
 abbrev pub flag_after : AfterPoll → Option Runnable → Option Runnable
 flag_after (AfterPoll.Requeue r) flag = Some r
 flag_after _ flag = flag
+
+-- nobody observes the request any more
+abbrev pub unobserved : Record → Record
+unobserved r = record r { shown = record r.shown { observed = false } }
+
+-- it is over, and the driver kept its output
+pub record IsReady (r : Record) (d : Driving Reply Reply) : Type 0 where
+  pub outcome : Outcome
+  pub is : r.shown.phase ≡ Resolved outcome
+  pub output : RequestOutput
+  pub kept : value_at d.requests r.id.0 ≡ Some (Ready output)
 
 module _ {B : Type 0} where
   -- what holds of the slot of task t
@@ -45,13 +56,31 @@ module _ {B : Type 0} where
 
   -- it lets others go first
   abbrev pub yielded_slot : TaskSlot B → TaskSlot B
-  yielded_slot slot =
-      record slot {
-        waiting = Waiting.Yielded;
-        told = Some Said.Pass;
-        fresh = false;
-        cell = record slot.cell { phase = woken slot.cell.phase };
-      }
+  yielded_slot slot = record (woken_slot slot) { waiting = Waiting.Yielded; told = Some Said.Pass }
+
+  -- task t took the output of request k, which is over
+  pub record TookOutput (t k : ℕ) (w w' : Worker) (s s' : Shared B) (e : Event) : Type 0 where
+    pub slot : TaskSlot B
+    pub slot' : TaskSlot B
+    pub there : slice_get s.tasks.items t ≡ Some slot
+    pub r : Record
+    pub request : slice_get s.requests.items k ≡ Some r
+    pub outcome : Outcome
+    pub is : r.shown.phase ≡ Resolved outcome
+    pub event : e ≡ Got k outcome
+    pub worker : w' ≡ record w { place = Place.Poll t InPoll.Act; home = record w.home { driver = w'.home.driver } }
+    pub driver : driver_of w' ≡ record (driver_of w) { requests = taken (driver_of w).requests r.id.0 }
+    pub punctual : IsPunctual (driver_of w) → IsPunctual (driver_of w')
+    pub requests : s'.requests.items ≡ slice_set s.requests.items k (unobserved r)
+    pub tasks : s'.tasks.items ≡ slice_set s.tasks.items t slot'
+    pub kept : s' ≡ record s { tasks = s'.tasks; requests = s'.requests }
+    pub output : RequestOutput
+    pub stood : value_at (driver_of w).requests r.id.0 ≡ Some (Ready output)
+    pub took : slot' ≡ record slot { held = slot'.held; waiting = Waiting.Nothing; told = Some (Said.Output output) }
+    pub all : slot'.held.items ≡ take (length slot.held.items - 1) slot.held.items
+    pub newest : Option ℕ
+    pub some : IsSome newest
+    pub held : numbers_held slot.held.items ≡ (numbers_held slot'.held.items) ++ option_to_list newest
 
 -- the body of a polled task made this act, told what it was told
 pub record Acts {B L : Type 0} (left : B → L) (gives : L → Option Sight → Said → Act B → L → Option Sight → Type 0) (old new : TaskSlot B) (sees sees' : Option Sight) (a : Act B) : Type 0 where
@@ -77,39 +106,3 @@ pub record MadeAct {B L : Type 0} (left : B → L) (gives : L → Option Sight �
   pub acts : Acts left gives slot slot' (Some (sight_of moment (length s.tasks.items) s.stopped s.opens)) (Some sight) a
   pub kept : s' ≡ record s { tasks = s'.tasks }
   pub tasks : s'.tasks.items ≡ slice_set s.tasks.items t slot'
-
--- nobody observes the request any more
-abbrev pub unobserved : Record → Record
-unobserved r = record r { shown = record r.shown { observed = false } }
-
--- it is over, and the driver kept its output
-pub record IsReady (r : Record) (d : Driving Reply Reply) : Type 0 where
-  pub outcome : Outcome
-  pub is : r.shown.phase ≡ Resolved outcome
-  pub output : RequestOutput
-  pub kept : value_at d.requests r.id.0 ≡ Some (Ready output)
-
-module _ {B : Type 0} where
-  -- task t took the output of request k, which is over
-  pub record TookOutput (t k : ℕ) (w w' : Worker) (s s' : Shared B) (e : Event) : Type 0 where
-    pub slot : TaskSlot B
-    pub slot' : TaskSlot B
-    pub there : slice_get s.tasks.items t ≡ Some slot
-    pub r : Record
-    pub request : slice_get s.requests.items k ≡ Some r
-    pub outcome : Outcome
-    pub is : r.shown.phase ≡ Resolved outcome
-    pub event : e ≡ Got k outcome
-    pub worker : w' ≡ record w { place = Place.Poll t InPoll.Act; home = record w.home { driver = w'.home.driver } }
-    pub driver : driver_of w' ≡ record (driver_of w) { requests = taken (driver_of w).requests r.id.0 }
-    pub punctual : IsPunctual (driver_of w) → IsPunctual (driver_of w')
-    pub requests : s'.requests.items ≡ slice_set s.requests.items k (unobserved r)
-    pub tasks : s'.tasks.items ≡ slice_set s.tasks.items t slot'
-    pub kept : s' ≡ record s { tasks = s'.tasks; requests = s'.requests }
-    pub output : RequestOutput
-    pub stood : value_at (driver_of w).requests r.id.0 ≡ Some (Ready output)
-    pub took : slot' ≡ record slot { held = slot'.held; waiting = Waiting.Nothing; told = Some (Said.Output output) }
-    pub all : slot'.held.items ≡ take (length slot.held.items - 1) slot.held.items
-    pub newest : Option ℕ
-    pub some : IsSome newest
-    pub held : numbers_held slot.held.items ≡ (numbers_held slot'.held.items) ++ option_to_list newest

@@ -1,8 +1,6 @@
 -- What the steps of several workers make of what they share, and of the worker that takes them.
 use Rattle.std.specs.Prelude.{◌≡◌, ◌⊎◌, ℕ, zero, suc, Bool, true, false, not, ◌+◌, ◌-◌, ◌^◌, ◌<◌, ◌≤◌, ◌&&◌, ◌==◌, ◌∷◌, ◌++◌, MatchBool, List, [], length, min, take, slice_get, is_some, Option, Some, None, if◌then◌else◌}
-use Rattle.exec_words.specs.Inbox.{sent}
-use Rattle.exec_machine.specs.declared.event.Event.TheVariants.{Closed}
-use Rattle.exec_parts.specs.{Words.{Driving, with_wake, is_dropped, opens_batch, spare_places, word_after, Queue, claimed, head_of, newest, overflowed, popped, released, tail_of, extended, asks_signal, Mailbox, cleared, is_idle, runnable_of, woken, IsFor, inserted, passed, shard_at, Set, TakesNewest, Said, said, Drain, AfterPoll, Runnable, cell, Error, TaskNo, shot, Configuration, Event, Turn, Rouse, Send, Spawn, Wake, MailMessage, Root, Rest, Waiting, is_awake, is_empty, AfterLeave, AfterPop, pop, AfterPush, push, AfterSend, send, First, after, pushes, callback, closing, poll, at, Exchanged, after_empty_look, after_empty_pop, judge_pop, after_visit, first_pop, after_posting}, declared.{claim.Claimed.Claimed, parts.{mail.{Reply.Reply, Subject.Subject}, seat.Seat.Seat as Chair, shared.Shared.Shared, task_slot.TaskSlot.TaskSlot, worker.Worker.Worker}}, Records.numbers_held, Phased.TurnsChair, Tests.{after_spawn_of, first_push_of, leave_of}, View.{body_in, desk_of, mail_of}, Things.TurnsSlot}
+use Rattle.exec_parts.specs.{Words.{Driving, mailed, with_wake, is_dropped, opens_batch, spare_places, word_after, Queue, claimed, head_of, newest, overflowed, popped, released, tail_of, extended, asks_signal, Mailbox, cleared, is_idle, runnable_of, woken, IsFor, inserted, passed, shard_at, Set, TakesNewest, Said, said, Drain, AfterPoll, Runnable, cell, Error, TaskNo, shot, Configuration, Event, Turn, Rouse, Send, Spawn, Wake, MailMessage, Root, Rest, Waiting, is_awake, is_empty, AfterLeave, AfterPop, pop, AfterPush, push, AfterSend, send, First, after, pushes, callback, closing, poll, at, Exchanged, after_empty_look, after_empty_pop, judge_pop, after_visit, first_pop, after_posting}, declared.{claim.Claimed.Claimed, parts.{mail.{Reply.Reply, Subject.Subject}, seat.Seat.Seat as Chair, shared.Shared.Shared, task_slot.TaskSlot.TaskSlot, worker.Worker.Worker}}, Records.numbers_held, Phased.TurnsChair, Tests.{after_spawn_of, first_push_of, leave_of}, View.{body_in, desk_of, mail_of}, Things.TurnsSlot}
 
 -- the chair of the worker of this number has this
 abbrev pub OfChair : {B : Type 0} → ℕ → Shared B → (Chair → Type 0) → Type 0
@@ -16,27 +14,22 @@ is_discard _ = false
 
 module _ {X : Type 0} where
   abbrev pub popped_if : Bool → Queue X → Queue X
-  popped_if true q = popped q
-  popped_if false q = q
+  popped_if out q = if out then popped q else q
 
   abbrev pub popped_if_any : Queue X → Queue X
   popped_if_any q = popped_if (not (is_empty q.values)) q
 
   abbrev pub overflowed_if : Bool → Queue X → Queue X
-  overflowed_if true q = overflowed q
-  overflowed_if false q = q
+  overflowed_if over q = if over then overflowed q else q
 
   abbrev pub claimed_if : Bool → ℕ → Queue X → Queue X
-  claimed_if true count q = claimed q count
-  claimed_if false count q = q
+  claimed_if mine count q = if mine then claimed q count else q
 
   abbrev pub released_if : Bool → Queue X → Queue X
-  released_if true q = released q
-  released_if false q = q
+  released_if mine q = if mine then released q else q
 
   abbrev pub taken_if : Bool → ℕ → List X → List X
-  taken_if true count values = take count values
-  taken_if false count values = []
+  taken_if mine count values = if mine then take count values else []
 
 -- the worker polls the task of this runnable next
 abbrev pub polling : Runnable → Worker → Worker
@@ -53,8 +46,7 @@ abbrev pub with_judged : Configuration → AfterPop → Queue Runnable → Worke
 with_judged c b q w = record w { place = judge_pop c w.index b (head_of q) (tail_of q - q.real) }
 
 abbrev pub with_exchanged : Bool → Configuration → AfterPop → Queue Runnable → Worker → Worker
-with_exchanged true c b q w = with_popped c b (slice_get q.values 0) w
-with_exchanged false c b q w = with_judged c b q w
+with_exchanged out c b q w = if out then with_popped c b (slice_get q.values 0) w else with_judged c b q w
 
 -- with what came out of the global queue
 abbrev pub with_share : Configuration → First → Option Runnable → Worker → Worker
@@ -93,6 +85,54 @@ chair_raised ring chair =
 abbrev pub event_rousing : ℕ → Rest → Event
 event_rousing worker rest = if is_awake rest then Turn else Rouse worker
 
+-- VISITS OF A DRAIN
+
+-- a visit takes the newest task of the shard
+pub record TakesTask (drain : Drain) (w w' : Worker) (set set' : Set (Unit {0})) : Type 0 where
+  pub task : ℕ
+  pub worker : w' ≡ record w { place = at.Closing (closing.Clear task drain) }
+  pub takes : TakesNewest drain.at (record { 0 = record { 0 = task }; 1 = tt }) set set'
+  pub its : IsFor drain set'
+
+-- or finds none there, and passes it
+pub record PassesShard (drain : Drain) (w w' : Worker) (set set' : Set (Unit {0})) : Type 0 where
+  pub empty : shard_at set drain.at ≡ []
+  pub worker : w' ≡ record w { place = at.Closing (after_visit (passed (length set.shards) drain)) }
+  pub same : set' ≡ set
+  pub its : IsFor (passed (length set.shards) drain) set
+
+abbrev pub Visited : Drain → Worker → Worker → Set (Unit {0}) → Set (Unit {0}) → Type 0
+Visited drain w w' set set' = TakesTask drain w w' set set' ⊎ PassesShard drain w w' set set'
+
+-- A TASK THAT WAS MADE
+
+-- what the task that asked for another is told
+abbrev pub told_of_made : Option Runnable → Said
+told_of_made None = said.Refused Error.Closed
+told_of_made (Some r) = said.Spawned r.task
+
+-- the worker of the task t goes on so
+abbrev pub with_made : Configuration → ℕ → Option Runnable → Worker → Worker
+with_made c t None w = record w { place = at.Poll t poll.Act }
+with_made c t (Some r) w = record w { place = after_spawn_of c.workers t w; hand = Some r }
+
+abbrev pub event_of_made : ℕ → Option Runnable → Event
+event_of_made name None = Event.Closed
+event_of_made name (Some r) = Spawn r.task.0 name
+
+-- who was woken in its poll is to be polled again: the root is flagged, any other task goes into the own queue
+abbrev pub queued_again : ℕ → AfterPoll → Worker → Worker
+queued_again t (AfterPoll.Requeue r) w =
+    if t == w.root then record w { root_ready = Some r } else record w { hand = Some r; place = at.Push pushes.LoadPushHead push.Pick }
+queued_again t _ w = w
+
+-- THE RING
+
+-- so many wakes are raised in the ring
+abbrev pub with_raises : ℕ → Driving Reply Reply → Driving Reply Reply
+with_raises zero d = d
+with_raises (suc more) d = with_raises more (record d { ring = with_wake d.ring })
+
 -- ONE MESSAGE TO ANOTHER
 
 -- there is a place for it, where it is to be put in
@@ -104,16 +144,12 @@ asks_if_sent m box = not box.inbox.closed && (opens_batch box.inbox (mail_of m) 
 
 abbrev pub chair_sent : MailMessage → Chair → Chair
 chair_sent m chair =
-    if chair.mailbox.inbox.closed then chair
-    else record chair {
-      mailbox = record chair.mailbox {
-        inbox = sent chair.mailbox.inbox (mail_of m);
-        waker = word_after chair.mailbox.inbox (mail_of m) chair.mailbox.waker;
-      };
-    }
+    let box = chair.mailbox in
+    if box.inbox.closed then chair
+    else record chair { mailbox = record box { inbox = mailed box.inbox (mail_of m); waker = word_after box.inbox (mail_of m) box.waker } }
 
 abbrev pub event_sent : ℕ → MailMessage → Mailbox Subject Subject → Event
-event_sent j m box = if box.inbox.closed then Closed else Send j m
+event_sent j m box = if box.inbox.closed then Event.Closed else Send j m
 
 module _ {B : Type 0} where
   -- worker j is sent the message, and is signalled next where that is asked for
@@ -128,9 +164,8 @@ module _ {B : Type 0} where
     pub there : j < length s.seats.items
     pub place : OfChair j s (λ chair. HasPlaceFor m chair.mailbox)
 
--- TASKS
+  -- TASKS
 
-module _ {B : Type 0} where
   -- it is cleared: over where nobody polls it, and else once its poll ends. Its body stays where it stands.
   abbrev pub cleared_slot : TaskSlot B → TaskSlot B
   cleared_slot slot = record slot { cell = cleared slot.cell; cleared = true; body = body_in slot.cell.phase slot.body }
@@ -168,40 +203,8 @@ module _ {B : Type 0} where
     pub worker : w' ≡ record w { root_ready = w'.root_ready }
     pub task : TurnsSlot w.root s s' woken_slot
 
--- a visit takes the newest task of the shard
-pub record TakesTask (drain : Drain) (w w' : Worker) (set set' : Set (Unit {0})) : Type 0 where
-  pub task : ℕ
-  pub worker : w' ≡ record w { place = at.Closing (closing.Clear task drain) }
-  pub takes : TakesNewest drain.at (record { 0 = record { 0 = task }; 1 = tt }) set set'
-  pub its : IsFor drain set'
+  -- ACTS THAT CONCERN OTHER TASKS
 
--- or finds none there, and passes it
-pub record PassesShard (drain : Drain) (w w' : Worker) (set set' : Set (Unit {0})) : Type 0 where
-  pub empty : shard_at set drain.at ≡ []
-  pub worker : w' ≡ record w { place = at.Closing (after_visit (passed (length set.shards) drain)) }
-  pub same : set' ≡ set
-  pub its : IsFor (passed (length set.shards) drain) set
-
-abbrev pub Visited : Drain → Worker → Worker → Set (Unit {0}) → Set (Unit {0}) → Type 0
-Visited drain w w' set set' = TakesTask drain w w' set set' ⊎ PassesShard drain w w' set set'
-
--- ACTS THAT CONCERN OTHER TASKS
-
--- what the task that asked for another is told
-abbrev pub told_of_made : Option Runnable → Said
-told_of_made None = said.Refused Error.Closed
-told_of_made (Some r) = said.Spawned r.task
-
--- the worker of the task t goes on so
-abbrev pub with_made : Configuration → ℕ → Option Runnable → Worker → Worker
-with_made c t None w = record w { place = at.Poll t poll.Act }
-with_made c t (Some r) w = record w { place = after_spawn_of c.workers t w; hand = Some r }
-
-abbrev pub event_of_made : ℕ → Option Runnable → Event
-event_of_made name None = Closed
-event_of_made name (Some r) = Spawn r.task.0 name
-
-module _ {B : Type 0} where
   -- task t makes another of this body, which has this name
   pub record Spawns (t name : ℕ) (body : B) (w w' : Worker) (s s' : Shared B) (e : Event) : Type 0 where
     pub made : Option Runnable
@@ -241,16 +244,3 @@ module _ {B : Type 0} where
     pub middle : Shared B
     pub told : TurnsSlot t s middle (λ slot. record slot { told = Some said.Pass })
     pub wakes : (slot : TaskSlot B) → slice_get middle.tasks.items u ≡ Some slot → WakesBy slot.home t u w w' middle s' e
-
--- who was woken in its poll is to be polled again: the root is flagged, any other task goes into the own queue
-abbrev pub queued_again : ℕ → AfterPoll → Worker → Worker
-queued_again t (AfterPoll.Requeue r) w =
-    if t == w.root then record w { root_ready = Some r } else record w { hand = Some r; place = at.Push pushes.LoadPushHead push.Pick }
-queued_again t _ w = w
-
--- THE RING
-
--- so many wakes are raised in the ring
-abbrev pub with_raises : ℕ → Driving Reply Reply → Driving Reply Reply
-with_raises zero d = d
-with_raises (suc more) d = with_raises more (record d { ring = with_wake d.ring })

@@ -1,6 +1,5 @@
 -- A body that does what its script says.
 use Rattle.std.specs.Prelude.{◌≡◌, ℕ, zero, suc, ◌-◌, ◌^◌, ◌<◌, ◌≤◌, Bool, true, false, List, [], ◌∷◌, ◌++◌, length, map, slice_get, Option, Some, None, if◌then◌else◌}
-use Rattle.exec_machine.specs.declared.state.Code.TheVariants.{Root}
 use Rattle.exec_parts.specs.{Words.{Closed, NoMemory, LAST_MOMENT, is_durable, asked_of, target_of, WriteBuffers, Single, DIRECT_CHUNK, Request, Sight, Act, Said, Configuration, ScriptWord, Code, Script, Waits, Operation, Plan, operation_asked, without_newest, Task, Common, open_of, next_word, moved_on}, Records.seen_in, Spots.{Spot, IsAskedFor, spot_of}}
 
 -- WHAT A BODY MAY DO. It makes requests, waits for them, lets go of them, sleeps, makes and wakes others, and ends. Any task
@@ -78,7 +77,7 @@ MayRunScript workers (Some (suc i)) = workers ≤ suc i
 
 -- Which script the task runs, by whose root it is: the first worker's, another's of the pool, or any other task.
 abbrev pub IsCodeOf : ℕ → Option ℕ → Code → Type 0
-IsCodeOf workers (Some zero) code = code ≡ Root
+IsCodeOf workers (Some zero) code = code ≡ Code.Root
 IsCodeOf workers (Some (suc i)) code = (suc i < workers → code ≡ Waits) × (workers ≤ suc i → (k : ℕ) × (code ≡ Script k))
 IsCodeOf workers None code = (k : ℕ) × (code ≡ Script k)
 

@@ -1,6 +1,8 @@
 -- What an enter does to a worker and to the records of its requests.
 use Rattle.std.specs.{Prelude.{◌≡◌, ℕ, ◌+◌, ◌-◌, ◌*◌, ◌/◌, ◌^◌, ◌<◌, ◌≤◌, ◌==◌, ◌&&◌, ◌||◌, Bool, true, false, not, List, [], ◌∷◌, length, slice_get, slice_set, Option, Some, None, if◌then◌else◌}, List.list_any, Vec.vec_capacity}
-use Rattle.exec_parts.specs.{Words.{Error, Outcome, Failure, Opcode, entered, Submission, has_pending, Event, Enter, Busy, flown, Service, InService, Reaping, Place}, declared.parts.{record.Record.Record, shared.Shared.Shared, worker.Worker.Worker}, Tests.{has_open_requests, is_anything_told}, View.driver_of}
+use Rattle.exec_parts.specs.{Words.{Opcode, entered, Submission, has_pending, Event, Enter, Busy, flown, Service, InService, Reaping, Place}, declared.parts.{record.Record.Record, shared.Shared.Shared, worker.Worker.Worker}, Tests.{has_open_requests, is_anything_told}, View.driver_of}
+-- how a request ends by an error
+pub use Rattle.exec_outcomes.specs.Accounts.{by_kept as outcome_of_error}
 
 -- each number is of a record
 abbrev pub AreKnown : List ℕ → List Record → Type 0
@@ -44,17 +46,16 @@ AreTagged [] = Unit {0}
 AreTagged (e ∷ es) = (is_cancel e.window.kind ≡ true → e.user_data ≡ 4294967295) × AreTagged es
 
 -- The kernel takes in all that is staged, or nothing where it is busy.
-module _ {B : Type 0} where
-  pub record EntersRing (w : Worker) (s : Shared B) (e : Event) (w' : Worker) (s' : Shared B) : Type 0 where
-    pub event : e ≡ (if (driver_of w).ring.busy then Busy else Enter)
-    pub driver : driver_of w' ≡ record (driver_of w) { ring = entered (driver_of w).ring; landings = (driver_of w').landings }
-    pub staged : w'.names.staged.items ≡ (if (driver_of w).ring.busy then w.names.staged.items else [])
-    pub untold : w'.names.untold.items ≡ (if (driver_of w).ring.busy then w.names.untold.items else [])
-    pub staged_room : vec_capacity w'.names.staged ≡ vec_capacity w.names.staged
-    pub untold_room : vec_capacity w'.names.untold ≡ vec_capacity w.names.untold
-    pub records : s'.requests.items ≡ (if (driver_of w).ring.busy then s.requests.items else flown_in w.names.staged.items s.requests.items)
-    pub worker : w' ≡ record w { home = record w.home { driver = w'.home.driver }; names = record w.names { staged = w'.names.staged; untold = w'.names.untold } }
-    pub shared : s' ≡ record s { requests = s'.requests }
+pub record EntersRing {B : Type 0} (w : Worker) (s : Shared B) (e : Event) (w' : Worker) (s' : Shared B) : Type 0 where
+  pub event : e ≡ (if (driver_of w).ring.busy then Busy else Enter)
+  pub driver : driver_of w' ≡ record (driver_of w) { ring = entered (driver_of w).ring; landings = (driver_of w').landings }
+  pub staged : w'.names.staged.items ≡ (if (driver_of w).ring.busy then w.names.staged.items else [])
+  pub untold : w'.names.untold.items ≡ (if (driver_of w).ring.busy then w.names.untold.items else [])
+  pub staged_room : vec_capacity w'.names.staged ≡ vec_capacity w.names.staged
+  pub untold_room : vec_capacity w'.names.untold ≡ vec_capacity w.names.untold
+  pub records : s'.requests.items ≡ (if (driver_of w).ring.busy then s.requests.items else flown_in w.names.staged.items s.requests.items)
+  pub worker : w' ≡ record w { home = record w.home { driver = w'.home.driver }; names = record w.names { staged = w'.names.staged; untold = w'.names.untold } }
+  pub shared : s' ≡ record s { requests = s'.requests }
 
 -- DEADLINES
 
@@ -66,11 +67,6 @@ first_tick start tick deadline = start + ((deadline - start + (tick - 1)) / tick
 abbrev pub IsOnWheel : ℕ → ℕ → Option ℕ → Type 0
 IsOnWheel start tick None = ⊥
 IsOnWheel start tick (Some deadline) = (start ≤ deadline) × (deadline + tick < 2 ^ 64)
-
--- how a request ends by an error
-abbrev pub outcome_of_error : Option Error → Option Outcome
-outcome_of_error None = None
-outcome_of_error (Some error) = Some (Failure error)
 
 -- THE END OF A STAGING
 

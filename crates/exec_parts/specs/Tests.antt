@@ -35,8 +35,7 @@ leaves_turn_of w = leave_of leave.Begin w
 
 -- who returned the last one kicks
 abbrev pub after_return_of : Bool → AfterLeave → Worker → Place
-after_return_of true b w = at.Kick kicks.LoadKickCount (kick.Leave b)
-after_return_of false b w = after_leave_of b w
+after_return_of last b w = if last then at.Kick kicks.LoadKickCount (kick.Leave b) else after_leave_of b w
 
 -- the first step of a wait on the ring
 abbrev pub ring_wait_of : Stay → Worker → Place

@@ -1,8 +1,6 @@
 -- What a worker, and what all share, shows: of the abstract machine, and of what stands beside it.
 use Rattle.std.specs.{Prelude.{ℕ, zero, suc, Bool, false, not, ◌-◌, ◌==◌, ◌&&◌, ◌||◌, if◌then◌else◌, List, [], ◌∷◌, drop, length, map, filter, slice_get, slice_index_or, slice_set, ◌++◌, is_some, Option, Some, None, option_to_list}, Option.option_map}
-use Rattle.exec_words.specs.declared.inbox.Message.{Message as Letter}
-use Rattle.exec_machine.specs.World.{Open}
-use Rattle.exec_parts.specs.{Words.{Slab, is_live, Slot, slot, Account, fresh_account, is_durable, is_wake, RingState, completions, Completion, ForwardedResult, waker_in, index_in, flying_count, Answer, Entry, entry, WaiterId, Driving, seen, is_control, OpenState, WaiterKey, letter, PureWord, Queue, Said, Runnable, Phase, cell, Call, Owed, MailMessage, message, TaskPhase, task, Own, Seat, Task, Common, is_resolved, letters_to_roots, Plan, Slots, Desk, Things, WakePoll, raised, polls_at, next_at, serves_at, Heard, send, signal, Place, at, closing}, declared.parts.{held.Held.Held, letters.Letters.Letters, mail.{Subject.{Subject, Subject as subject}, Reply.Reply}, record.Record.Record, seat.Seat.Seat as Chair, shared.Shared.Shared, task_slot.TaskSlot.TaskSlot, worker.Worker.Worker}, Records.{number_in, numbers_held}, Spots.{Spot, no_spot}}
+use Rattle.exec_parts.specs.{Words.{Slab, is_live, Slot, slot, Account, fresh_account, is_durable, is_wake, RingState, completions, Completion, ForwardedResult, waker_in, index_in, flying_count, Answer, Entry, entry, WaiterId, Driving, seen, is_control, OpenState, WaiterKey, Message, letter, OpenFile, PureWord, Queue, Said, Runnable, Phase, cell, Call, Owed, MailMessage, message, TaskPhase, task, Own, Seat, Task, Common, is_resolved, letters_to_roots, Plan, Slots, Desk, Things, WakePoll, raised, polls_at, next_at, serves_at, Heard, send, signal, Place, at, closing}, declared.parts.{held.Held.Held, letters.Letters.Letters, mail.{Subject.{Subject, Subject as subject}, Reply.Reply}, record.Record.Record, seat.Seat.Seat as Chair, shared.Shared.Shared, task_slot.TaskSlot.TaskSlot, worker.Worker.Worker}, Records.{number_in, numbers_held}, Spots.{Spot, no_spot}}
 
 -- NUMBERS
 
@@ -43,13 +41,7 @@ behind_end (c ∷ cs) = if is_end c then Some (operations_in cs) else behind_end
 -- the wake poll, as the kernel has it
 abbrev pub wake_poll_in : RingState → WakePoll
 wake_poll_in r =
-    record {
-      armed = r.armed;
-      last = r.last;
-      told = trails_wake false (completions r);
-      ended = behind_end (completions r);
-      kept = r.raised;
-    }
+    record { armed = r.armed; last = r.last; told = trails_wake false (completions r); ended = behind_end (completions r); kept = r.raised }
 
 -- and once so many more wakes are raised
 abbrev pub raised_times : ℕ → WakePoll → WakePoll
@@ -66,13 +58,13 @@ abbrev pub cancel_of : Subject → MailMessage
 cancel_of (subject.Request r) = message.CancelRequest r
 cancel_of (subject.Timer z) = message.CancelTimer z
 
-abbrev pub message_of : Letter Subject Subject → MailMessage
+abbrev pub message_of : Message Subject Subject → MailMessage
 message_of letter.WakeRoot = message.Root
 message_of (letter.Forward x) = forward_of x
 message_of (letter.Cancel x) = cancel_of x
 
 -- and as its worker takes it
-abbrev pub mail_of : MailMessage → Letter Subject Subject
+abbrev pub mail_of : MailMessage → Message Subject Subject
 mail_of message.Root = letter.WakeRoot
 mail_of (message.ForwardRequest r) = letter.Forward (subject.Request r)
 mail_of (message.ForwardTimer z) = letter.Forward (subject.Timer z)
@@ -268,14 +260,10 @@ abbrev pub account_seen : Option Account → Account
 account_seen None = fresh_account
 account_seen (Some account) = account
 
-abbrev pub open_seen : List Record → OpenState → Open
+abbrev pub open_seen : List Record → OpenState → OpenFile
 open_seen rs o =
     let line = line_of rs (gate_seen rs o) in
-    record {
-      account = account_seen o.account;
-      holder = slice_get line 0;
-      waiting = drop 1 line;
-    }
+    record { account = account_seen o.account; holder = slice_get line 0; waiting = drop 1 line }
 
 -- TASKS, by what a body is left to do and where that is in its script
 

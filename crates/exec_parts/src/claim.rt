@@ -5,8 +5,7 @@
 
 ghost use Rattle.std.specs.Prelude.{◌≡◌, ◌-◌, IsSome};
 ghost use Rattle.exec_words.specs.Idle.{lowest_of};
-ghost use Rattle.exec_moves.specs.Claim.{claimed, idle_after};
-ghost use Rattle.exec_parts.specs.Pooled.{as_claimed};
+ghost use Rattle.exec_parts.specs.{Words.{exchanged, idle_after}, Pooled.as_claimed};
 
 use crate::parts::worker::Worker;
 use exec_words::idle::{PureIdle, WorkerSet};
@@ -25,8 +24,8 @@ pub enum Claimed {
 #[tactic(auto, using(crate::proofs::Claims::claims_nobody))]
 pub fn claim(idle: &mut PureIdle, set: &WorkerSet) -> Claimed
     requires some { IsSome (lowest_of set.now.has) }
-    ensures answer { result ≡ as_claimed (claimed set.now idle.old) }
-    ensures idle { idle.new ≡ idle_after (claimed set.now idle.old) idle.old }
+    ensures answer { result ≡ as_claimed (exchanged set.now idle.old) }
+    ensures idle { idle.new ≡ idle_after (exchanged set.now idle.old) idle.old }
 {
     match idle.claim_exchange(set) {
         Ok(worker) => Claimed::Worker(worker),

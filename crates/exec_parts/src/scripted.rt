@@ -9,9 +9,7 @@ use exec_task::body::Body;
 /// A body that runs a script.
 pub trait Scripted: Body {
     ghost use Rattle.std.specs.Prelude.{ℕ, List, Option};
-    ghost use Rattle.exec_task.specs.declared.body.Said.{Said};
-    ghost use Rattle.exec_machine.specs.Progress.{Plan};
-    ghost use Rattle.exec_parts.specs.{Spots.Spot, Scripts.{IsAnswered, IsNamed, Plays}};
+    ghost use Rattle.exec_parts.specs.{Words.{Plan, Said}, Spots.Spot, Scripts.{IsAnswered, IsNamed, Plays}};
 
     // It runs the script of a task of this plan: of the root of this worker, or of an ordinary task.
     ghost runs: { Self.Left → Plan → Option ℕ → Type 0 };

@@ -1,17 +1,17 @@
 //! What a task holds is let go: at once what its last worker has, while the workers of the others are told so by
 //! messages, one a step.
 
-ghost use Rattle.std.specs.Prelude.{◌<◌, ◌≡◌, None, true, false};
-ghost use Rattle.exec_parts.specs.{Awaits.{LetsGo, MayLetGo}, Ending.{LetsGoOf, LetsHeld, LetsWaiting, MayLetGoAll, MayLetGoOf, MayLetSleep}, Pooled.{MaySend, Sends}, MailTakes.{MayRemove, RemovesSleeper}};
-ghost use Rattle.exec_machine.specs.declared.state.Waiting.TheVariants as waiting;
+ghost use Rattle.std.specs.Prelude.{◌≡◌, true, false};
+ghost use Rattle.exec_parts.specs.{Awaits.{LetsGo, MayLetGo}, Ending.{LetsGoAll, LetsGoOf, LetsWaiting, MayLetGoAll, MayLetGoOf, MayLetSleep}, Pooled.{MaySend, Sends}, MailTakes.{MayRemove, RemovesSleeper}};
 
 use crate::parts::held::Held;
+use crate::parts::letters::Letters;
 use crate::parts::shared::Shared;
 use crate::parts::worker::Worker;
 use crate::scripted::Scripted;
 use crate::signal::mail;
 use exec_machine::event::Event;
-use exec_machine::state::MailMessage;
+use exec_machine::state::{MailMessage, Waiting};
 use exec_moves::handing::{AfterSend, AfterSignal, InSignal};
 use exec_moves::place::Place;
 
@@ -58,12 +58,13 @@ impl Worker {
         ensures lets { LetsGoOf task self.old self.new shared.old shared.new }
     {
         let slot = &mut shared.tasks[task];
-        let sleeper = slot.sleeper();
-        slot.swap_held(&mut self.letters.requests);
-        self.let_go_held(shared);
-        if let Some(timer) = sleeper {
-            self.let_go_of_sleeper(timer, shared);
-        }
+        let waiting = slot.waiting();
+        let mut requests = slot.take_held();
+        let mine = self.index;
+        self.let_go_held(&requests, shared);
+        requests.retain(|held| held.worker != mine);
+        let timer = self.let_go_of_sleeper(waiting, shared);
+        self.letters = Letters { requests, timer };
     }
 
     /// The same, where the task is over; else nothing changes. The caller must have what `let_go_of` asks for where it is.
@@ -79,39 +80,35 @@ impl Worker {
     }
 
     // Lets go of those requests that this worker has of what a task held.
-    fn let_go_held<B: Drop>(&mut self, shared: &mut Shared<B>)
-        requires may { MayLetGoAll self.old.letters.requests.items self.old shared.old }
-        ensures lets { LetsHeld self.old self.new shared.old shared.new }
+    fn let_go_held<B: Drop>(&mut self, requests: &[Held], shared: &mut Shared<B>)
+        requires may { MayLetGoAll requests.now self.old shared.old }
+        ensures lets { LetsGoAll requests.now self.old self.new shared.old shared.new }
     {
-        let mut at = 0;
-        'held: while at < self.letters.requests.len() {
-            let held = self.letters.requests[at];
-            at += 1;
+        for held in requests {
             if held.worker == self.index {
                 self.orphan_request(held.number, shared);
             }
         }
-        let mine = self.index;
-        self.letters.requests.retain(|held| held.worker != mine);
     }
 
-    // Lets go of a sleeper that nobody waits for any more, or has its worker told next.
-    fn let_go_of_sleeper<B: Drop>(&mut self, timer: usize, shared: &mut Shared<B>)
-        requires none { self.old.letters.timer ≡ None }
-        requires may { MayLetSleep (waiting.Timer timer) self.old shared.old }
-        ensures lets { LetsWaiting (waiting.Timer timer) self.new.letters.timer self.old
-            (record self.new { letters = self.old.letters }) shared.old shared.new }
-        ensures requests { self.new.letters.requests ≡ self.old.letters.requests }
+    // Lets go of a sleeper that is waited for no more, where this worker has it. Answers one whose worker is to be told.
+    fn let_go_of_sleeper<B: Drop>(
+        &mut self,
+        waiting: Waiting,
+        shared: &mut Shared<B>,
+    ) -> Option<Held>
+        requires may { MayLetSleep waiting self.old shared.old }
+        ensures lets { LetsWaiting waiting result self.old self.new shared.old shared.new }
     {
-        let worker = shared.sleepers[timer].shown.worker;
-        if worker == self.index {
-            self.remove_sleeper(timer, shared);
-        } else {
-            self.letters.timer = Some(Held {
-                number: timer,
-                worker,
-            });
+        let Waiting::Timer(number) = waiting else {
+            return None;
+        };
+        let worker = shared.sleepers[number].shown.worker;
+        if worker != self.index {
+            return Some(Held { number, worker });
         }
+        self.remove_sleeper(number, shared);
+        None
     }
 
     /// The sleeper of this number is gone without a wake, since nobody waits for it any more. The caller must know that

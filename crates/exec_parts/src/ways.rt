@@ -2,9 +2,7 @@
 //! just did. Who takes a step at such a place is the crate of its group.
 
 ghost use Rattle.std.specs.Prelude.{◌≡◌, ◌<◌, ◌-◌, ◌^◌, ◌||◌, false, true, Option, ℕ};
-ghost use Rattle.exec_moves.specs.{Callback.serve as place_of_service, Parts.{after_visit, first_pop as place_of_pop, cancels_left, next_pick as place_of_pick, after_send as place_after_send, tells_from}, Claim.claimed, Load.has_mail};
-ghost use Rattle.exec_parts.specs.{Tests.{first_load_of, after_callbacks_of, next_callback_of, after_leave_of, after_return_of, leave_of, has_put_off, leaves_turn_of, next_turn_of, after_waiting_of, place_withdrawn, first_push_of, ring_wait_of, HasToldDue, IsNextMoment, is_within, word_wait_of}, View.{desk_of, letters_in}};
-ghost use Rattle.exec_machine.specs.declared.config.Configuration.{Configuration};
+ghost use Rattle.exec_parts.specs.{Words.{Configuration, after_send as place_after_send, after_visit, cancels_left, first_pop as place_of_pop, has_mail, next_pick as place_of_pick, serve as place_of_service, tells_from}, Tests.{first_load_of, after_callbacks_of, next_callback_of, after_leave_of, after_return_of, leave_of, has_put_off, leaves_turn_of, after_waiting_of, place_withdrawn, first_push_of, ring_wait_of, HasToldDue, IsNextMoment, word_wait_of}, View.{desk_of, letters_in}};
 
 use crate::parts::worker::Worker;
 use exec_moves::handing::{
@@ -74,7 +72,8 @@ impl Worker {
         match back {
             AfterLeave::Poll { task } => Place::Poll(task, InPoll::BeginPoll),
             AfterLeave::CallBack { next } => Place::Callbacks(InCallbacks::CallBack, next),
-            AfterLeave::Begin => self.turn_made_up(),
+            AfterLeave::Begin if self.has_put_off() => serve(AfterService::Begin),
+            AfterLeave::Begin => Place::BeginTurn,
         }
     }
 
@@ -99,8 +98,8 @@ impl Worker {
         word.pending(self.processed)
     }
 
-    /// Whether the service of this turn put something off that is to be done.
-    pub(crate) fn has_put_off(&self) -> bool
+    // Whether the service of this turn put something off that is to be done.
+    fn has_put_off(&self) -> bool
         ensures { result ≡ has_put_off self.now }
     {
         let pending = self.home.driver.has_pending_submissions();
@@ -113,17 +112,6 @@ impl Worker {
         ensures { result ≡ leaves_turn_of self.now }
     {
         self.leave(AfterLeave::Begin)
-    }
-
-    /// The next turn, after what the service of this one has put off, where it has.
-    pub(crate) fn turn_made_up(&self) -> Place
-        ensures { result ≡ next_turn_of self.now }
-    {
-        if self.has_put_off() {
-            serve(AfterService::Begin)
-        } else {
-            Place::BeginTurn
-        }
     }
 
     /// What follows a wait. A dedicated worker has no bit in the idle set to take out.
@@ -178,10 +166,8 @@ impl Worker {
     pub fn after_cancels(&self, back: AfterCancels) -> Place
         ensures { result ≡ cancels_left back (desk_of self.now) (letters_in self.now.letters) }
     {
-        if !self.letters.is_empty() {
-            return Place::SendCancel(back);
-        }
         match back {
+            _ if !self.letters.is_empty() => Place::SendCancel(back),
             AfterCancels::Remove { task } => Place::Poll(task, InPoll::RemoveTask),
             AfterCancels::Pick => self.next_pick(),
             AfterCancels::Visit { drain } => Place::Closing(after_a_visit(drain)),
@@ -219,23 +205,15 @@ impl Worker {
         ensures same { self.new ≡ self.old }
     {
         let left = self.spinner.budget();
-        let is_near = self.is_near(longest_spin);
+        let read = self.moments.read;
+        let next = self.next_moment();
+        let is_near = next.is_some_and(|next| next.saturating_sub(read).div_ceil(1000)
+            <= longest_spin);
         if left > 0 && !is_near {
             Place::WordWait(InWordWait::SpinOnBatch { left })
         } else {
             Place::WordWait(InWordWait::ArmWord)
         }
-    }
-
-    // Whether a deadline is at most so many microseconds after what it last read off the clock.
-    fn is_near(&mut self, longest_spin: u64) -> bool
-        requires told { HasToldDue self.old }
-        ensures near { (moment : Option ℕ) × IsNextMoment self.old moment × (result ≡ is_within longest_spin self.old.moments.read moment) }
-        ensures same { self.new ≡ self.old }
-    {
-        let read = self.moments.read;
-        let next = self.next_moment();
-        next.is_some_and(|next| next.saturating_sub(read).div_ceil(1000) <= longest_spin)
     }
 }
 

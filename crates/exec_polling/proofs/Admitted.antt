@@ -18,10 +18,6 @@ moves_most = grind arith
 moves_none : (out : Bool) (socket : ℕ) (r : Record) → moves_by out socket r.shown.operation ≡ false → may_move out socket r ≡ 0
 moves_none out socket r is = ap (λ b. if b then unlanded r.shown.phase r.shown.released r.shown.operation else 0) is
 
-either : {A : Type 0} (b : Bool) (x : A) → (if b then x else x) ≡ x
-either true x = refl
-either false x = refl
-
 other_socket : (socket fd : ℕ) → (socket == fd) ≡ false → (fd == socket) ≡ false
 other_socket = grind arith
 

@@ -3,12 +3,11 @@ use Rattle.std.proofs.{Common.{◌≡◌, ℕ, ◌+◌, ◌<◌, ◌≤◌, inl,
 use Rattle.exec_words.specs.Global.{Global, spare_places}
 use Rattle.exec_task.specs.declared.{body.Said.Said, runnable.Runnable.Runnable}
 use Rattle.exec_machine.specs.{declared.event.Event.{Event, TheVariants.Turn}, Choice.Choice.Plain, Progress.Plan}
-use Rattle.exec_moves.specs.{Global.appended_if, MoveOfCaller.call_on, Push.in_hand, Thing.set_global}
-use Rattle.exec_moves.specs.declared.handing.CallPlace.TheVariants as call
-use Rattle.exec_moves.specs.declared.handing.InGlobal.TheVariants as global
-use Rattle.exec_parts.{specs.{declared.parts.{shared.Shared.Shared, task_slot.TaskSlot.TaskSlot}, Spots.Spot, View.{Views, common_of, tasks_of, things_with}}, proofs.Facts.{some_of}}
+use Rattle.exec_moves.specs.{Global.appended_if, MoveOfCaller.call_on, Push.in_hand, Thing.set_global, declared.handing.CallPlace.CallPlace as call}
+use Rattle.exec_parts.{specs.{declared.parts.{shared.Shared.Shared, task_slot.TaskSlot.TaskSlot}, Spots.Spot, View.{Views, common_of, tasks_of, things_with}}, proofs.Facts.some_of}
 use Rattle.exec_polling.{specs.{declared.caller.Caller.Caller, Calling.{CallSound, CallSteps, HasCallWhole, desk_of_caller, hands_on_in, has_count_in, is_free, place_after_append, with_caller}}, proofs.Outsiders.{beside_shares, call_turned, sound_shares}}
-use Rattle.exec_invariants.{specs.{Places.one_if, Whole.{HasOne, IsGenuine, IsWhole, Profile, claimed_count, may_let_go, runnables_in, stock}}, proofs.{Appending.{few_enough, hand_seen, not_among}, Aside.seats_same, Onces.{has_at_most}, Thieves.in_both}}
+use Rattle.exec_invariants.{specs.{Places.one_if, Whole.{HasOne, IsGenuine, IsWhole, Profile, claimed_count, may_let_go, runnables_in, stock}}, proofs.{Appending.{few_enough, hand_seen, not_among}, Aside.seats_same, Onces.has_at_most, Thieves.in_both}}
+use Rattle.exec_moves.specs.declared.handing.InGlobal.TheVariants as global
 
 module _ {B : Type 0} where
   -- of runnables that parties have or share there is one of each task

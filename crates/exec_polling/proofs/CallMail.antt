@@ -1,16 +1,11 @@
 -- What the wake of a root by an outside caller is to the machine: its worker is sent a message.
 use Rattle.std.proofs.{Common.{◌≡◌, ℕ, ◌<◌, ◌&&◌, Bool, true, false, not, length, nat_lt, Option, Some, refl, sym, ap, subst, ◌∙◌, arith, slice_get, slice_set, if◌then◌else◌}, lemmas.{Bool.{eq-eqb, Decides.nat_tests}, List.length-map, Option.{get_or_from_slice_get, slice_get_within}}}
 use Rattle.exec_task.specs.declared.body.Said.{Said}
-use Rattle.exec_machine.specs.{declared.{event.Event.Event, state.MailMessage.TheVariants.Root}, Callers.{common_by, is_half_done, may_call, may_wake_by_call}, Choice.Payer.ByCall, Mail.has_root_message, Progress.Plan, Tests.AllTrue, World.{no_seat, seat_of, task_of}}
-use Rattle.exec_machine.specs.declared.state.Call.TheVariants as half
-use Rattle.exec_machine.specs.declared.step.Action.TheVariants as action
-use Rattle.exec_moves.specs.{Call.{after_posting, calls_at}, Thing.{mailbox_of, set_mailbox}, declared.handing.CallPlace.CallPlace}
-use Rattle.exec_moves.specs.declared.handing.CallPlace.TheVariants as call
-use Rattle.exec_moves.specs.declared.handing.InSignal.TheVariants as signals
+use Rattle.exec_machine.specs.{declared.{event.Event.Event, state.{MailMessage.TheVariants.Root, Call.Call as half}, step.Action.Action as action}, Callers.{common_by, is_half_done, may_call, may_wake_by_call}, Choice.Payer.ByCall, Mail.has_root_message, Progress.Plan, Tests.AllTrue, World.{no_seat, seat_of, task_of}}
+use Rattle.exec_moves.specs.{Call.{after_posting, calls_at}, Thing.{mailbox_of, set_mailbox}, declared.handing.{CallPlace.{CallPlace, CallPlace as call}, InSignal.InSignal as signals}}
 use Rattle.exec_parts.{specs.{declared.parts.{seat.Seat.Seat as Chair, shared.Shared.Shared, task_slot.TaskSlot.TaskSlot}, Pooled.{asks_if_sent, chair_sent, event_sent}, MailPosts.IsMailbox, Spots.Spot, View.{Views, Visible, common_of, seat_seen, seats_seen, task_seen, things_with}}, proofs.Facts.and_from}
-use Rattle.exec_invariants.proofs.Showing.{own_word_seen}
+use Rattle.exec_invariants.{proofs.{Showing.own_word_seen, Aside.HoldsIn, Dedicated.home_within as root_within, RootMail.holding_posted, Posting.{Arrival, IsArrival, arrival, asks_as, asks_by, chair_by, choice_by, event_as, event_by, inbox_seen, mailbox_by, posted_as, posted_shows, posted_spares, posting_as, root_message_as, seat_as, seat_by}, Seats.{chair_set, seat_there as seen_there}, Slots.task_there, SparedRecord.there_within, Turning.set_found}, specs.Whole.{IsWhole, Profile}}
 use Rattle.exec_polling.{specs.{declared.caller.Caller.Caller, Calling.{CallSound, CallSuits, CallWorks, WakesByCall, with_caller, call_of, desk_of_caller, is_free, place_by_mail, with_call}}, proofs.{CallSignals.{beside, still_sound}, CallWakes.free_call, Outsiders.{Leads, leads_either, to_return}}}
-use Rattle.exec_invariants.{specs.{Whole.{IsWhole, Profile}}, proofs.{Aside.HoldsIn, Dedicated.home_within as root_within, RootMail.holding_posted, Posting.{Arrival, IsArrival, arrival, asks_as, asks_by, chair_by, choice_by, event_as, event_by, inbox_seen, mailbox_by, posted_as, posted_shows, posted_spares, posting_as, root_message_as, seat_as, seat_by}, Seats.{chair_set, seat_there as seen_there}, Slots.task_there, SparedRecord.there_within, Turning.set_found}}
 
 same_queue : (a : Arrival) (chair : Chair) → (chair_by a chair).queue ≡ chair.queue
 same_queue = grind arith

@@ -3,14 +3,10 @@
 use Rattle.std.proofs.{Common.{◌≡◌, ℕ, ◌+◌, ◌<◌, ◌≤◌, Bool, true, false, length, map, Option, None, Some, refl, sym, ap, subst, ◌∙◌, arith, inl, option_to_list, slice_get, slice_set}, lemmas.{Bool.false≢true, List.length-set, Option.get_or_from_slice_get}}
 use Rattle.exec_words.specs.{Queue.tail_of, Word.asks_signal, declared.word.PureWord.PureWord}
 use Rattle.exec_task.specs.declared.body.Said.{Said}
-use Rattle.exec_machine.specs.{declared.{event.Event.{Event, TheVariants.{Turn, Rouse}}, state.Rest.Rest}, Choice.Choice.Plain, Progress.Plan, Tests.is_awake, World.{no_seat, seat_of}}
-use Rattle.exec_machine.specs.declared.step.Action.TheVariants as action
-use Rattle.exec_moves.specs.{Claim.{is_ring, latched, rousing}, MoveOfCaller.call_on, declared.handing.CallPlace.CallPlace}
-use Rattle.exec_moves.specs.declared.handing.CallPlace.TheVariants as call
-use Rattle.exec_moves.specs.declared.handing.InSignal.TheVariants as signals
+use Rattle.exec_machine.specs.{declared.{event.Event.{Event, TheVariants.{Turn, Rouse}}, state.Rest.Rest, step.Action.Action as action}, Choice.Choice.Plain, Progress.Plan, Tests.is_awake, World.{no_seat, seat_of}}
+use Rattle.exec_moves.specs.{Claim.{is_ring, latched, rousing}, MoveOfCaller.call_on, declared.handing.{CallPlace.{CallPlace, CallPlace as call}, InSignal.InSignal as signals}}
 use Rattle.exec_parts.specs.{declared.parts.{seat.Seat.Seat as Chair, shared.Shared.Shared}, Phased.TurnsChair, Pooled.{OfChair, chair_latched, chair_raised, event_rousing}, Spots.Spot, View.{Views, Visible, common_of, seat_seen, seats_seen, things_with}}
-use Rattle.exec_invariants.proofs.Showing.{map_kept, own_word_seen, seats_kept, word_shows}
-use Rattle.exec_invariants.{specs.{Holding.box_of, Places.one_if, Sound.IsInHand, Spares.SparesChair, Whole.{IsWhole, Profile, runnables_in}}, proofs.{Aside.{queue_of_chair, queues_set, HoldsIn, seats_other, whole_boxed}, PoolKept.{gate_spared, gates_set}, Rousing.wake_shows, Seats.{chair_set, seat_there as seen_there}, SparedRecord.there_within, Turning.Shares}}
+use Rattle.exec_invariants.{proofs.{Showing.{map_kept, own_word_seen, seats_kept, word_shows}, Aside.{queue_of_chair, queues_set, HoldsIn, seats_other, whole_boxed}, PoolKept.{gate_spared, gates_set}, Rousing.wake_shows, Seats.{chair_set, seat_there as seen_there}, SparedRecord.there_within, Turning.Shares}, specs.{Holding.box_of, Places.one_if, Sound.IsInHand, Spares.SparesChair, Whole.{IsWhole, Profile, runnables_in}}}
 use Rattle.exec_polling.{specs.{declared.caller.Caller.Caller, Calling.{CallBeside, CallSound, CallSteps, CallSuits, CallWorks, call_of, desk_of_caller, hands_on_in, has_count_in, is_free, place_by_word, with_call, with_caller}}, proofs.Outsiders.{Leads, beside_shares, call_turned, leads_either, may_be_gone_on, sound_shares, still_called, to_return}}
 
 module _ {B L : Type 0} (left : B → L) (spot : L → Option Said → Spot) (c c' : Caller) (s s' : Shared B) (e : Event) (sound : CallSound c s) (k : ℕ) where

@@ -1,15 +1,12 @@
 -- What the spawn of a task by an outside caller is to the machine.
 use Rattle.std.proofs.{Common.{◌≡◌, ℕ, ◌<◌, true, false, not, Contains, [], ◌∷◌, ◌++◌, length, Option, Some, None, refl, sym, ap, subst, ◌∙◌, arith, slice_get, slice_index_or}, lemmas.{Bool.eq-eqb, List.{length-map, set-get_or}, Option.{get_or_from_slice_get, slice_get_within}}}
 use Rattle.exec_task.specs.{TaskSet.held, declared.{body.Said.Said, runnable.Runnable.Runnable}}
-use Rattle.exec_machine.specs.{declared.{config.Configuration.Configuration, event.Event.Event}, Callers.{is_half_done, may_call}, Choice.Choice.Plain, Progress.Plan, World.Common}
-use Rattle.exec_machine.specs.declared.state.Call.TheVariants as half
-use Rattle.exec_machine.specs.declared.step.Action.TheVariants as action
-use Rattle.exec_moves.specs.{Call.{CallDesk, calls_at, queues}, Cells.shard_of, MoveOfCaller.call_spawn, Pop.shard_count, Send.next_task, State.Things, Thing.set_shard}
-use Rattle.exec_moves.specs.declared.handing.CallPlace.TheVariants as call
-use Rattle.exec_moves.specs.declared.handing.InGlobal.TheVariants as global
+use Rattle.exec_machine.specs.{declared.{config.Configuration.Configuration, event.Event.Event, state.Call.Call as half, step.Action.Action as action}, Callers.{is_half_done, may_call}, Choice.Choice.Plain, Progress.Plan, World.Common}
+use Rattle.exec_moves.specs.{Call.{CallDesk, calls_at, queues}, Cells.shard_of, MoveOfCaller.call_spawn, Pop.shard_count, Send.next_task, State.Things, Thing.set_shard, declared.handing.CallPlace.CallPlace as call}
 use Rattle.exec_parts.{specs.{declared.parts.shared.Shared.Shared, Pooled.MakesTask, Scripts.Begins, Spots.Spot, View.{Views, common_of, task_seen, things_with}}, proofs.Facts.{not-true, not-false, same_Some}}
 use Rattle.exec_polling.{specs.{declared.caller.Caller.Caller, Calling.{CallBeside, CallSound, CallSuits, CallWorks, HasCallWhole, HoldsForAll, SpawnsByCall, call_of, desk_of_caller, is_free, with_caller}}, proofs.{CallWakes.free_call, Outsiders.{beside_shares, hears_same, sound_shares, whole_idled}, SpawnJoins.{HasOneMore, Joins, genuine_new, homes_joined, none_yet, resting_joined, shards_same, spares_joined, whole_joined}, SpawnLists.found_again, SpawnSteps.{shards_show, tasks_seen}}}
 use Rattle.exec_invariants.{specs.{Drained.in_set, Whole.{IsGenuine, Profile, duties_of}}, proofs.{Aside.seats_same, PopLeads.some_shards, Stirs.only}}
+use Rattle.exec_moves.specs.declared.handing.InGlobal.TheVariants as global
 
 open_call : (c : Configuration) (s : Common) (d : CallDesk) (x : Things) (k : ℕ) → s.set_closed ≡ false
     → call_spawn c s d x k ≡ (let n = shard_of c (next_task s) in record { event = Event.Spawn (next_task s) k; choice = Plain; desk = queues (next_task s); thing = set_shard n x (slice_index_or x.shards n [] ++ next_task s ∷ []) })

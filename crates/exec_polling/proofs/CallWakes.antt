@@ -2,16 +2,11 @@
 use Rattle.std.proofs.{Common.{◌≡◌, ◌≢◌, ℕ, ◌+◌, ◌<◌, Bool, true, false, not, inl, inr, Contains, [], ◌∷◌, length, map, nat_lt, Option, Some, None, refl, sym, ap, subst, ◌∙◌, arith, option_to_list, slice_get, slice_set, if◌then◌else◌}, lemmas.{Bool.{eq-eqb, false≢true, Decides.nat_tests}, List.{length-map, length-set, Elements.Contains-push_cases}, Option.{get_or_from_slice_get, slice_get_within}}}
 use Rattle.exec_base.specs.declared.task_no.TaskNo.{TaskNo}
 use Rattle.exec_task.specs.{Phases.{is_idle, is_polled, runnable_of, woken}, declared.{body.Said.Said, runnable.Runnable.Runnable, task.Phase.Phase}}
-use Rattle.exec_machine.specs.{declared.event.Event.{Event, TheVariants.Wake}, Callers.{is_half_done, may_call}, Choice.{Choice.Pays, Payer.ByCall}, Progress.Plan, Tasks.woken as woken_task, Tests.is_idle as is_idle_seen, World.task_of}
-use Rattle.exec_machine.specs.declared.state.Call.TheVariants as half
-use Rattle.exec_machine.specs.declared.step.Action.TheVariants as action
-use Rattle.exec_moves.specs.{Call.{calls_at, queues}, declared.handing.CallPlace.CallPlace}
-use Rattle.exec_moves.specs.declared.handing.CallPlace.TheVariants as call
-use Rattle.exec_moves.specs.declared.handing.InGlobal.TheVariants as global
+use Rattle.exec_machine.specs.{declared.{event.Event.{Event, TheVariants.Wake}, state.Call.Call as half, step.Action.Action as action}, Callers.{is_half_done, may_call}, Choice.{Choice.Pays, Payer.ByCall}, Progress.Plan, Tasks.woken as woken_task, Tests.is_idle as is_idle_seen, World.task_of}
+use Rattle.exec_moves.specs.{Call.{calls_at, queues}, declared.handing.{CallPlace.{CallPlace, CallPlace as call}, InGlobal.InGlobal as global}}
 use Rattle.exec_parts.{specs.{declared.parts.{shared.Shared.Shared, task_slot.TaskSlot.TaskSlot}, Phased.is_complete, Pooled.woken_slot, Spots.Spot, View.{Views, common_of, phase_seen, task_seen, things_with}, Things.TurnsSlot}, proofs.Facts.{and_from, by_number, not_same, same_Some, set_elsewhere, set_there}}
-use Rattle.exec_invariants.proofs.Showing.{map_kept, map_set}
+use Rattle.exec_invariants.{proofs.{Showing.{map_kept, map_set}, PoolKept.{Redoes, pool_slot}, SlotTasks.{Keeps, genuine_set, homes_set, resting_set}, Slots.{spares_slot, task_there}}, specs.{Hearing.Hears, Holding.holder_of, Places.one_if, Sound.{AreHome, AreResting, IsInHand, IsResting}, Spares.Spares, Whole.{HasOne, IsGenuine, IsWhole, Profile, claimed_count, duties_of, may_let_go, runnables_in, stock}}}
 use Rattle.exec_polling.{specs.{declared.caller.Caller.Caller, Calling.{CallAims, CallBeside, CallSound, CallSuits, CallWorks, HoldsForAll, WakesByCall, call_of, desk_of_caller, hands_on_in, has_count_in, is_free, with_caller, with_woken}}, proofs.Outsiders.{no_other, hears_same}}
-use Rattle.exec_invariants.{specs.{Hearing.Hears, Holding.holder_of, Places.one_if, Sound.{AreHome, AreResting, IsInHand, IsResting}, Spares.Spares, Whole.{HasOne, IsGenuine, IsWhole, Profile, claimed_count, duties_of, may_let_go, runnables_in, stock}}, proofs.{PoolKept.{Redoes, pool_slot}, SlotTasks.{Keeps, genuine_set, homes_set, resting_set}, Slots.{spares_slot, task_there}}}
 
 module _ {B : Type 0} where
   -- THE PHASE

@@ -1,14 +1,13 @@
 -- A request comes in, with the next number.
 use Rattle.std.{proofs.{Common.{◌≡◌, ◌≢◌, ℕ, ◌+◌, ◌≤◌, Bool, false, Contains, List, [], ◌∷◌, count_by, length, suc, Some, None, refl, arith, slice_get}, lemmas.List.Sums.sum_by-cons}, specs.VecDeque.deque_capacity}
 use Rattle.exec_base.specs.{Slab.{IsPast, next_id}, declared.slab.Id.Id}
-use Rattle.exec_outcomes.specs.{declared.outcome.Kind.Kind}
+use Rattle.exec_outcomes.specs.declared.outcome.Kind.{Kind}
 use Rattle.exec_request.specs.Requests.{deadline_of, gate_of}
 use Rattle.exec_waiters.specs.declared.{observer.Observer.TheVariants.Local, waiter.{Entry.TheVariants.Pending, Waiter.Waiter}}
 use Rattle.exec_driver.specs.{Driving.Driving, Placed.ListsRequests}
 use Rattle.exec_machine.specs.{declared.state.{Operation.Operation, RequestPhase.RequestPhase}, Requests.{first_phase, new_request}, Tests.{is_in_flight, is_resolved, is_staged}}
 use Rattle.exec_parts.specs.declared.parts.{mail.Reply.Reply, names.Names.Names, record.Record.Record}
-use Rattle.exec_invariants.proofs.Taken.{Takes, enrolled_if}
-use Rattle.exec_invariants.specs.{Flown.IsPlain, Names.IsAlike}
+use Rattle.exec_invariants.{proofs.Taken.{Takes, enrolled_if}, specs.{Flown.IsPlain, Names.IsAlike}}
 
 -- A request came in under this name, queued or at its gate, with the next number.
 pub record OneComes (i : ℕ) (n n' : Names) (d d' : Driving Reply Reply) (rs : List Record) (id : Id) (it : Waiter Reply Reply) (r : Record) : Type 0 where

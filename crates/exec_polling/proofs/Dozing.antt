@@ -7,11 +7,10 @@ use Rattle.exec_ring.specs.declared.store.Store.{Store}
 use Rattle.exec_driver.specs.Driving.{Driving}
 use Rattle.exec_machine.specs.{Deadlines.new_sleeper, Tests.{is_applied, is_asleep}}
 use Rattle.exec_moves.specs.declared.place.InService.{InService}
-pub use Rattle.exec_polling.proofs.LeafBeds.{bed_names, bed_room, bed_within}
 use Rattle.exec_parts.{specs.{declared.parts.{mail.Reply.Reply, names.Names.Names, record.Record.Record, sleeping.SleeperRecord.SleeperRecord}, Records.number_in}, proofs.Facts.{by_name, not_same}}
-use Rattle.exec_invariants.proofs.Taken.{Takes, got_new, got_old, name_apart, number_new, number_old, slot_apart, value_new, value_old, was_got}
-use Rattle.exec_invariants.{specs.{Carried.IsCarried, Due.{AreAsleep, AreTimed}, Ordered.IsOrdered, Flown.{HasFlown}, Places.one_if, Rooted.{IsReplyFor, IsRooted, SleeperPays, completions_of, ends_elsewhere, is_of_timer}, Sound.AreOver, Names.IsNamed}, proofs.{FiringNames.{counted_joined, naps_joined}, Flown.landed_on}}
+use Rattle.exec_invariants.{proofs.{Taken.{Takes, got_new, got_old, name_apart, number_new, number_old, slot_apart, value_new, value_old, was_got}, FiringNames.{counted_joined, naps_joined}, Flown.landed_on}, specs.{Carried.IsCarried, Due.{AreAsleep, AreTimed}, Ordered.IsOrdered, Flown.HasFlown, Places.one_if, Rooted.{IsReplyFor, IsRooted, SleeperPays, completions_of, ends_elsewhere, is_of_timer}, Sound.AreOver, Names.IsNamed}}
 use Rattle.exec_polling.proofs.Coming.{none_of}
+pub use Rattle.exec_polling.proofs.LeafBeds.{bed_names, bed_room, bed_within}
 
 -- A sleeper came in under this name, with the next number; of the other numbers there may be more room.
 pub record OneDozes (i t until : ℕ) (n n' : Names) (zs zs' : Slab (Sleeping Reply)) (ss : List SleeperRecord) (z : SleeperRecord) : Type 0 where

@@ -8,13 +8,11 @@ use Rattle.exec_waiters.specs.{Events.{finished, told_by_finish}, States.{counts
 use Rattle.exec_driver.specs.{Admission.with_rooms, Driving.{Driving, seen}, Placed.ListsRequests, Punctual.IsPunctual, Footprints.footprint_of, Steps.{is_late, newcomer, placed_at, plainly_written, taken_in, timed_out, told_at_admission}}
 use Rattle.exec_lists.specs.Lists.{withdrawn, without}
 use Rattle.exec_opens.specs.Opens.{OpenState, placed, with_named, writing}
-use Rattle.exec_machine.specs.{declared.{event.Event.Event, state.{Operation.Operation}}, Requests.{asked_of as asked_in, first_phase, new_request, outcome_if_late, resolved}, Tests.{is_gated, is_in_flight, is_landed, is_resolved}}
+use Rattle.exec_machine.specs.{declared.{event.Event.Event, state.Operation.Operation}, Requests.{asked_of as asked_in, first_phase, new_request, outcome_if_late, resolved}, Tests.{is_gated, is_in_flight, is_landed, is_resolved}}
 use Rattle.exec_moves.specs.declared.{handing.AfterCallbacks.AfterCallbacks, place.{Place.Place, InCallbacks.InCallbacks, InPoll.InPoll}}
 use Rattle.exec_parts.specs.{declared.parts.{mail.Reply.Reply, names.Names.Names, record.Record.Record, shared.Shared.Shared, worker.Worker.Worker}, Records.{number_in, operation_in, seen_in}, Serving.{changed_at, changed_in}, Calls.IsTold, View.driver_of}
-use Rattle.exec_invariants.{specs.Admitting.{Registers, has_open, most_told, seeing}, proofs.Taken.{Takes, enrolled_if, got_new}}
-use Rattle.exec_polling.proofs.{Enlisting.{cancels_are, due_are, enrolments_are, gated_are, driver_then, placed_late, placed_queued, placing, queued_driver, taken_by}, Growing.told_same}
-use Rattle.exec_invariants.{specs.{Due.{IsWheelAt, wheel_moment}, Gates.{may_ask_hint}, Ordered.went_round, Sound.{SoundAt, AreOver}, Names.{HasWidth, tellers}}, proofs.{Late.tells_error, Orders.{TurnsAlike, alike_self}, Ousting.keeps_ended, Over.{OneEnds, leaves_all}, Resolving.{SlabAfter, places_fewer, slab_after}, ServedEnds.ends_told, ServingHolds.KeepsBy, Untold.{keeps_untold, rooted_told}}}
-use Rattle.exec_polling.proofs.{Rooms.few_tellers, Coming.OneComes, Newcomer.{carried_next, flown_next, is_here, known_next, named_next, order_next, over_next, punctual_next, rooted_next, timed_next}, RegisterOpens.{IsRegistered, Opened, hints_then, opened_so}, Unbegun.{late_is, none_come}, IsComing.IsComing}
+use Rattle.exec_invariants.{specs.{Admitting.{Registers, has_open, most_told, seeing}, Due.{IsWheelAt, wheel_moment}, Gates.may_ask_hint, Ordered.went_round, Sound.{SoundAt, AreOver}, Names.{HasWidth, tellers}}, proofs.{Taken.{Takes, enrolled_if, got_new}, Late.tells_error, Orders.{TurnsAlike, alike_self}, Ousting.keeps_ended, Over.{OneEnds, leaves_all}, Resolving.{SlabAfter, places_fewer, slab_after}, ServedEnds.ends_told, ServingHolds.KeepsBy, Untold.{keeps_untold, rooted_told}}}
+use Rattle.exec_polling.proofs.{Enlisting.{cancels_are, due_are, enrolments_are, gated_are, driver_then, placed_late, placed_queued, placing, queued_driver, taken_by}, Growing.told_same, Rooms.few_tellers, Coming.OneComes, Newcomer.{carried_next, flown_next, is_here, known_next, named_next, order_next, over_next, punctual_next, rooted_next, timed_next}, RegisterOpens.{IsRegistered, Opened, hints_then, opened_so}, Unbegun.{late_is, none_come}, IsComing.IsComing}
 
 set_last : {A : Type 0} (xs : List A) (x y : A) → slice_set (xs ++ x ∷ []) (length xs) y ≡ xs ++ y ∷ []
 set_last [] x y = refl

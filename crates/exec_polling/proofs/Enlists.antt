@@ -1,7 +1,7 @@
 -- What the machine sees of a worker whose task has made a request.
 use Rattle.std.proofs.{Common.{◌≡◌, ℕ, ◌+◌, ◌==◌, Bool, true, false, not, List, [], ◌∷◌, ◌++◌, length, filter, map, Option, Some, None, IsSome, refl, sym, ap, ◌∙◌, arith, is_some, if◌then◌else◌}, lemmas.{List.{append-nil, map-append}, Option.slice_get_within}}
 use Rattle.exec_base.specs.{Slab.value_at, declared.{slab.Id.Id, error.Error.TheVariants.Timeout}}
-use Rattle.exec_outcomes.specs.{Accounts.is_durable, declared.outcome.Outcome.TheVariants.{Failure}}
+use Rattle.exec_outcomes.specs.{Accounts.is_durable, declared.outcome.Outcome.TheVariants.Failure}
 use Rattle.exec_request.specs.{Requests.{asked_of, deadline_of, gate_of, output_of, target_of}, declared.request.Request.Request as Asking}
 use Rattle.exec_ring.specs.Rings.{RingState, completions}
 use Rattle.exec_waiters.specs.{Events.told_by_finish, States.{counts_flying, flying_count, waiter_at}, Told.{Told, nothing_told}, declared.{deferred.Deferred.Deferred, observer.Observer.TheVariants.Local, waiter.{Entry.TheVariants.{Pending, Ready}, Waiter.Waiter}, waiter_id.WaiterId.WaiterId}}
@@ -11,10 +11,8 @@ use Rattle.exec_lists.specs.Lists.{is_among, without}
 use Rattle.exec_machine.specs.{declared.{event.Event.Event, state.{Next.Next, Operation.Operation}}, Requests.{own_after_admit, outcome_if_late}, Same.is_none, World.Own}
 use Rattle.exec_moves.specs.{Seen.{next_at, polls_at, serves_at}, Slots.entered, State.Desk, declared.place.{InPoll.InPoll, Place.Place}}
 use Rattle.exec_parts.{specs.{declared.parts.{mail.{Reply.Reply, Subject.Subject}, names.Names.Names, shared.Shared.Shared, worker.Worker.Worker}, Records.{number_in, seen_in}, View.{Visible, awaited_from, completions_in, desk_of, driver_of, landed_in, letters_in, message_of, numbers_of, owed_at, own_of, results_in, slots_seen, trailing, visible, wake_poll_in}}, proofs.Facts.{same_self, or_left}}
-use Rattle.exec_invariants.{specs.Admitting.{Registers, joins_gate}, proofs.Taken.{enrolled_if, value_new}}
-use Rattle.exec_polling.proofs.Enlisting.{enrolments_are, placed_queued, placing, queued_are}
-use Rattle.exec_invariants.{specs.{Flown.operations, Sound.SoundAt}, proofs.{Ends.{flying_ended, later_in, numbers_without}, Flown.numbers_on, Gated.{durable_of_file, gate_there}, Mine.stands, Slotted.{awaited_written, slots_written}}}
-use Rattle.exec_polling.proofs.{IsComing.IsComing, Enlisted.{driver_is, driver_late, driver_made, late_plain, names_made, one_comes, operation, record_made, tells_now, wakes_now}, Coming.OneComes, Newcomer.{flies_on, is_here, number_here, number_there}, RegisterSlots.{awaited_entered, slots_entered}, Unbegun.late_is}
+use Rattle.exec_invariants.{specs.{Admitting.{Registers, joins_gate}, Flown.operations, Sound.SoundAt}, proofs.{Taken.{enrolled_if, value_new}, Ends.{flying_ended, later_in, numbers_without}, Flown.numbers_on, Gated.{durable_of_file, gate_there}, Mine.stands, Slotted.{awaited_written, slots_written}}}
+use Rattle.exec_polling.proofs.{Enlisting.{enrolments_are, placed_queued, placing, queued_are}, IsComing.IsComing, Enlisted.{driver_is, driver_late, driver_made, late_plain, names_made, one_comes, operation, record_made, tells_now, wakes_now}, Coming.OneComes, Newcomer.{flies_on, is_here, number_here, number_there}, RegisterSlots.{awaited_entered, slots_entered}, Unbegun.late_is}
 
 -- a placing leaves the ring
 ring_placed : (d : Driving Reply Reply) (id : WaiterId) (w : Waiter Reply Reply) (o g : Option ℕ) (b : Bool)

@@ -1,9 +1,8 @@
 -- A worker's inbox got places, and one more request or sleeper was made there: what is left to hold of each.
 use Rattle.std.proofs.{Common.{◌≡◌, ℕ, suc, zero, ◌+◌, ◌*◌, ◌<◌, ◌≤◌, Bool, true, false, cond, Contains, List, [], ◌∷◌, count_by, length, sum_by, Option, Some, None, refl, sym, ap, subst, ◌∙◌, arith, inl, inr, slice_get, slice_set}, lemmas.List.{length-set, Sums.sum_by-cons}}
 use Rattle.exec_words.specs.declared.inbox.Message.{Message}
-use Rattle.exec_parts.{specs.declared.parts.mail.Subject.Subject, proofs.Facts.{by_number, same_Some, set_elsewhere, set_there}}
+use Rattle.exec_parts.{specs.declared.parts.mail.Subject.{Subject, Subject as subject}, proofs.Facts.{by_number, same_Some, set_elsewhere, set_there}}
 use Rattle.exec_invariants.{specs.Holding.{Box, Hands, HasPlace, Holder, IsAbout, IsForwarded, IsHeldBy, IsHolding, IsOwed, Mail, Nap, Owes, Thing, holdings, mail_in, under_way, waiters}, proofs.HoldRedo.sum_set}
-use Rattle.exec_parts.specs.declared.parts.mail.Subject.TheVariants as subject
 
 -- LISTS
 

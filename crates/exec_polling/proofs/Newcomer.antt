@@ -1,6 +1,6 @@
 -- One more request is queued, or waits at its gate: what holds again of the requests.
 use Rattle.std.{proofs.{Common.{◌≡◌, ◌≢◌, ℕ, ◌+◌, ◌^◌, ◌<◌, ◌≤◌, ◌&&◌, ◌||◌, not, Bool, true, false, List, [], ◌∷◌, ◌++◌, length, suc, zero, Option, Some, None, IsSome, refl, sym, ap, subst, ◌∙◌, arith, inl, inr, slice_get, is_some}, lemmas.{Bool.false≢true, List.length-append, Option.slice_get_within}}, specs.List.AllByRecursion}
-use Rattle.exec_base.specs.{Slab.{Slab, IsPast, generation_of, next_generation, slot_at, value_at}, declared.slab.{Id.Id, Slot.{Slot}}}
+use Rattle.exec_base.specs.{Slab.{Slab, IsPast, generation_of, next_generation, slot_at, value_at}, declared.slab.{Id.Id, Slot.Slot}}
 use Rattle.exec_outcomes.specs.Accounts.{is_durable}
 use Rattle.exec_time.specs.declared.timers.Sleeper.{Sleeper as Sleeping}
 use Rattle.exec_request.specs.{Requests.{asked_of, cursor_of, deadline_of, gate_of, target_of}, declared.request.Request.Request as Asking}
@@ -12,8 +12,7 @@ use Rattle.exec_opens.specs.Opens.{OpenState}
 use Rattle.exec_machine.specs.{Requests.{asked_of as asked_in, first_phase}, Tests.{is_applied, is_in_flight, is_resolved, is_staged}}
 use Rattle.exec_moves.specs.declared.place.InService.{InService}
 use Rattle.exec_parts.{specs.{declared.parts.{mail.Reply.Reply, names.Names.Names, record.Record.Record, sleeping.SleeperRecord.SleeperRecord}, Records.number_in}, proofs.Facts.{and_parts, by_name, by_number, not_same}}
-use Rattle.exec_invariants.proofs.Taken.{got_new, got_old, name_apart, number_new, number_old, past_still, slot_apart, some_still, value_before, value_new, value_old, was_got, enrolled_if, among_before, among_now, all_listed, known_more}
-use Rattle.exec_invariants.{specs.{Carried.{IsCarried, IsWhole}, Due.AreTimed, Flown.{AreLanded, HasFlown, IsPlain, IsPolled, operations}, Gates.{IsKnown, has_hint_at, may_ask_hint}, Ordered.IsOrdered, Places.one_if, Rooted.{IsReplyFor, IsRooted, Pays, Watches, goes_elsewhere, is_of_request, results_of}, Sound.AreOver, Names.{IsNamed, IsSubmitted}}, proofs.{Flown.{AllFlyOn, landed_on}, Conveying.carried_ring, Gated.gate_there, Mine.stands, Orders.{Eases, comes_in, joins}}}
+use Rattle.exec_invariants.{proofs.{Taken.{got_new, got_old, name_apart, number_new, number_old, past_still, slot_apart, some_still, value_before, value_new, value_old, was_got, enrolled_if, among_before, among_now, all_listed, known_more}, Flown.{AllFlyOn, landed_on}, Conveying.carried_ring, Gated.gate_there, Mine.stands, Orders.{Eases, comes_in, joins}}, specs.{Carried.{IsCarried, IsWhole}, Due.AreTimed, Flown.{AreLanded, HasFlown, IsPlain, IsPolled, operations}, Gates.{IsKnown, has_hint_at, may_ask_hint}, Ordered.IsOrdered, Places.one_if, Rooted.{IsReplyFor, IsRooted, Pays, Watches, goes_elsewhere, is_of_request, results_of}, Sound.AreOver, Names.{IsNamed, IsSubmitted}}}
 use Rattle.exec_polling.proofs.{Admitted.{IsFew, carried_joined, room_made, stretch_made}, Coming.{OneComes, first_idle, none_of}}
 
 module _ (i : ℕ) (n n' : Names) (d d' : Driving Reply Reply) (zs : Slab (Sleeping Reply)) (rs : List Record) (ss : List SleeperRecord) (id : Id) (it : Waiter Reply Reply) (r : Record) (one : OneComes i n n' d d' rs id it r) where

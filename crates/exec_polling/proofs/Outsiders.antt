@@ -2,13 +2,8 @@
 use Rattle.std.proofs.{Common.{◌≡◌, ◌≢◌, ℕ, ◌+◌, ◌-◌, ◌^◌, ◌<◌, ◌≤◌, ◌==◌, ◌&&◌, Bool, true, false, not, Contains, List, length, Option, Some, None, IsSome, refl, sym, ap, subst, ◌∙◌, arith, option_to_list, slice_get, slice_set, if◌then◌else◌}, lemmas.{Bool.false≢true, List.{length-set, Quantifiers.position-Some}, Option.get_or_from_slice_get}}
 use Rattle.exec_words.specs.{Idle.{Idle, is_in, lowest_of}, declared.idle.WorkerSet.WorkerSet}
 use Rattle.exec_task.specs.declared.{body.Said.Said, runnable.Runnable.Runnable}
-use Rattle.exec_machine.specs.{declared.{event.Event.{Event, TheVariants.{Turn, Return}}}, Callers.{common_by, is_half_done, may_go_on}, Choice.Choice.Plain, Progress.Plan}
-use Rattle.exec_machine.specs.declared.state.Call.TheVariants as half
-use Rattle.exec_machine.specs.declared.step.Action.TheVariants as action
-use Rattle.exec_moves.specs.{Call.after_claim, Claim.{Claimed, claimed, idle_after, same_bools, set_of}, Global.has_any, MoveOfCaller.call_on, declared.handing.CallPlace.CallPlace}
-use Rattle.exec_moves.specs.declared.handing.CallPlace.TheVariants as call
-use Rattle.exec_moves.specs.declared.handing.InGlobal.TheVariants as global
-use Rattle.exec_moves.specs.declared.handing.InSignal.TheVariants as signals
+use Rattle.exec_machine.specs.{declared.{event.Event.{Event, TheVariants.{Turn, Return}}, state.Call.Call as half, step.Action.Action as action}, Callers.{common_by, is_half_done, may_go_on}, Choice.Choice.Plain, Progress.Plan}
+use Rattle.exec_moves.specs.{Call.after_claim, Claim.{Claimed, claimed, idle_after, same_bools, set_of}, Global.has_any, MoveOfCaller.call_on, declared.handing.{CallPlace.{CallPlace, CallPlace as call}, InGlobal.InGlobal as global, InSignal.InSignal as signals}}
 use Rattle.exec_parts.{specs.{declared.parts.{shared.Shared.Shared, task_slot.TaskSlot.TaskSlot}, Spots.Spot, View.{Views, Visible, common_of, seats_seen, things_with}}, proofs.Facts.by_number}
 use Rattle.exec_polling.specs.{declared.caller.Caller.Caller, Calling.{CallAims, CallBeside, CallSound, CallSteps, HasCallWhole, HoldsForAll, call_of, desk_of_caller, hands_on_in, has_count_in, is_free, place_by_count, place_by_set, with_call, with_caller}}
 use Rattle.exec_invariants.{specs.{Hearing.Hears, Places.one_if, Sound.{AreHome, IsInHand}, Spares.Spares, Whole.{HasOne, IsGenuine, IsWhole, Profile, claimed_count, may_let_go, stock}}, proofs.{Aside.{SparesSeats, seats_same, spares_turn}, Counting.{at_most, set_at, set_beside, sum_few, sum_one}, Handed.someone, Kicking.{again_some, lowest_claimed}, Turning.{Shares, set_found}}}

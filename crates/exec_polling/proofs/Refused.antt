@@ -1,14 +1,13 @@
 -- An act that got no memory: what is seen is as before.
-use Rattle.std.proofs.{Common.{◌≡◌, ℕ, false, List, [], map, Option, Some, None, refl, sym, ap, ◌∙◌, slice_get, slice_set}, lemmas.{List.{append-nil, set-set}}}
+use Rattle.std.proofs.{Common.{◌≡◌, ℕ, false, List, [], map, Option, Some, None, refl, sym, ap, ◌∙◌, slice_get, slice_set}, lemmas.List.{append-nil, set-set}}
 use Rattle.exec_base.specs.declared.error.Error.TheVariants.{NoMemory}
 use Rattle.exec_waiters.specs.{Told.{Tells, nothing_told}, declared.deferred.Deferred.Deferred}
 use Rattle.exec_driver.specs.Driving.{Driving}
 use Rattle.exec_words.specs.declared.inbox.Message.{Message}
 use Rattle.exec_task.specs.{Sight.Sight, declared.body.{Act.Act, Said.Said}}
-use Rattle.exec_machine.specs.{Progress.Plan}
+use Rattle.exec_machine.specs.Progress.{Plan}
 use Rattle.exec_parts.{specs.{Records.numbers_held, declared.parts.{mail.{Reply.Reply, Subject.Subject}, names.Names.Names, record.Record.Record, sleeping.SleeperRecord.SleeperRecord, seat.Seat.Seat as Chair, shared.Shared.Shared, task_slot.TaskSlot.TaskSlot, worker.Worker.Worker}, Scripts.is_last, Spots.Spot, View.{Views, Visible, common_of, desk_of, driver_of, gate_seen, inbox_at, landed_in, message_of, numbers_of_passing, open_seen, own_of, polls_seen, queue_at, seats_seen, task_seen, things_with, visible, wake_poll_in, word_at}}, proofs.Facts.{same_Some, set_there}}
-use Rattle.exec_invariants.specs.Admitting.{Refuses}
-use Rattle.exec_invariants.{specs.{Acting.HasActed, Works.Same}, proofs.{Acting.actor, Performing.{same_slot, unmoved_seen}}}
+use Rattle.exec_invariants.{specs.{Admitting.Refuses, Acting.HasActed, Works.Same}, proofs.{Acting.actor, Performing.{same_slot, unmoved_seen}}}
 use Rattle.exec_polling.proofs.{Enlists.{desk_by, own_by}, RegisterSeen.{part_placed, placed_at, polls_placed, seats_placed}}
 
 abbrev placed : ℕ → Chair → Chair

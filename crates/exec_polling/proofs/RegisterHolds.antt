@@ -1,12 +1,10 @@
 -- What tasks hold once one made a request, which it holds, or a sleeper, for which it waits. Its worker's inbox got places first.
 use Rattle.std.proofs.{Common.{◌≡◌, ◌⊎◌, ℕ, suc, zero, not, ◌&&◌, ◌+◌, ◌<◌, ◌≤◌, ◌==◌, Bool, true, false, cond, List, [], ◌∷◌, ◌++◌, count_by, length, sum_by, Option, Some, None, refl, sym, ap, subst, ◌∙◌, arith, inl, inr, slice_get, slice_set}, lemmas.{Bool.{false≢true, eq-eqb}, List.Sums.sum_by-append, Option.slice_get_within}}
-use Rattle.exec_machine.specs.{declared.state.Forwarding.TheVariants.Unsent}
+use Rattle.exec_machine.specs.declared.state.Forwarding.TheVariants.{Unsent}
 use Rattle.exec_words.specs.declared.inbox.Message.{Message}
 use Rattle.exec_outcomes.specs.declared.outcome.Outcome.{Outcome}
-use Rattle.exec_parts.{specs.declared.parts.{held.Held.Held, mail.Subject.Subject}, proofs.Facts.{by_number, not_same, same_Some, set_elsewhere, set_there}}
-use Rattle.exec_invariants.proofs.Taken.{got_new, got_old, was_got}
-use Rattle.exec_invariants.{specs.{Holding.{Awaits, AwaitsNap, Box, Hands, HasPlace, Holder, HoldsRequest, IsAbout, IsHeldBy, IsHolding, IsOf, IsOrdinary, IsOwed, Mail, MayHave, Nap, Owes, Thing, holdings, is_awaited_by, mail_in, same_mail, under_way, waiters}}, proofs.{HoldMail.mail_is, HoldRedo.{count_set, sum_set}}}
-use Rattle.exec_parts.specs.declared.parts.mail.Subject.TheVariants as subject
+use Rattle.exec_parts.{specs.declared.parts.{held.Held.Held, mail.Subject.{Subject, Subject as subject}}, proofs.Facts.{by_number, not_same, same_Some, set_elsewhere, set_there}}
+use Rattle.exec_invariants.{proofs.{Taken.{got_new, got_old, was_got}, HoldMail.mail_is, HoldRedo.{count_set, sum_set}}, specs.Holding.{Awaits, AwaitsNap, Box, Hands, HasPlace, Holder, HoldsRequest, IsAbout, IsHeldBy, IsHolding, IsOf, IsOrdinary, IsOwed, Mail, MayHave, Nap, Owes, Thing, holdings, is_awaited_by, mail_in, same_mail, under_way, waiters}}
 use Rattle.exec_polling.proofs.MadePlaces.{none_counted, none_summed, weigh, counted_there, by_zero}
 
 -- THE HOLDER that made it

@@ -6,8 +6,7 @@ use Rattle.exec_opens.specs.{Opens.{OpenState, account_by, account_in, placed, w
 use Rattle.exec_driver.specs.Steps.{plainly_written}
 use Rattle.exec_machine.specs.{Requests.account_after_admit, Same.same_kind, Tests.{is_gated, is_of_file}, World.{Open, no_open}}
 use Rattle.exec_parts.{specs.{declared.parts.record.Record.Record, Records.file_named, View.{account_seen, gate_seen, has_given_up, line_of, number_of_key, open_seen}}, proofs.Facts.{and_parts, by_number, same_number, same_Some, set_there, set_elsewhere}}
-use Rattle.exec_invariants.specs.Admitting.{has_open}
-use Rattle.exec_invariants.{specs.{Gates.{AreLinedUp, HaveGates, JoinsGate, at_gate, has_hint_at, is_coming, key_for, line_at}, Places.Drops}, proofs.{Accounted.{account_shown, lines_account, with_its}, Gated.{durable_of_file}, Lined.{SameLines, gates_opens, lined_opens}}}
+use Rattle.exec_invariants.{specs.{Admitting.has_open, Gates.{AreLinedUp, HaveGates, JoinsGate, at_gate, has_hint_at, is_coming, key_for, line_at}, Places.Drops}, proofs.{Accounted.{account_shown, lines_account, with_its}, Gated.durable_of_file, Lined.{SameLines, gates_opens, lined_opens}}}
 use Rattle.exec_polling.proofs.{GateGrown.{IsNew, gates_grown, gates_placed, joins_new, lined_grown, lined_placed}, Unbegun.IsUnbegun}
 
 -- a record of this request, which nobody has a name for

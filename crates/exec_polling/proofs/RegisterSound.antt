@@ -3,8 +3,7 @@ use Rattle.std.proofs.{Common.{◌≡◌, ◌⊎◌, inl, ℕ, ◌+◌, ◌*◌,
 use Rattle.exec_base.specs.Slab.{live_count}
 use Rattle.exec_moves.specs.declared.{handing.AfterCallbacks.AfterCallbacks, place.{InCallbacks.InCallbacks, InPoll.InPoll, Place.Place}}
 use Rattle.exec_parts.{specs.{declared.parts.{mail.Subject.Subject, record.Record.Record, seat.Seat.Seat as Chair, shared.Shared.Shared, sleeping.SleeperRecord.SleeperRecord, task_slot.TaskSlot.TaskSlot, worker.Worker.Worker}, MailPosts.IsMailbox, Phased.{IsPhased, closes_at, closing_in, stage_of}, View.driver_of}, proofs.Facts.{same_Some, set_there}}
-use Rattle.exec_invariants.proofs.Taken.{got_old, was_got}
-use Rattle.exec_invariants.{specs.{Gates.AreLinedUp, Holding.Mail, Places.polled_in, Sound.{AreHome, HasBatch, HasGuest, HasLetters, HasQueue, IsMineIn, IsMyMail, IsSeated, IsTied, SoundAt, Stands}}, proofs.ServingHolds.KeepsBy}
+use Rattle.exec_invariants.{proofs.{Taken.{got_old, was_got}, ServingHolds.KeepsBy}, specs.{Gates.AreLinedUp, Holding.Mail, Places.polled_in, Sound.{AreHome, HasBatch, HasGuest, HasLetters, HasQueue, IsMineIn, IsMyMail, IsSeated, IsTied, SoundAt, Stands}}}
 
 -- LISTS that grow at their end, by one of this worker
 

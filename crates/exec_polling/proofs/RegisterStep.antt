@@ -1,5 +1,5 @@
 -- The act by which a task makes a request: what holds then, and what that leaves of others.
-use Rattle.std.proofs.{Common.{◌≡◌, ◌⊎◌, inl, inr, ℕ, ◌+◌, ◌^◌, ◌<◌, ◌≤◌, ◌==◌, count_by, Bool, true, false, List, [], ◌∷◌, ◌++◌, length, map, Option, Some, None, IfSome, refl, sym, ap, subst, ◌∙◌, arith, slice_get, slice_set, option_map, if◌then◌else◌}, lemmas.{Bool.{Decides.nat_tests}, List.{length-map, map-append, map-set, set-set}, Option.slice_get-map}}
+use Rattle.std.proofs.{Common.{◌≡◌, ◌⊎◌, inl, inr, ℕ, ◌+◌, ◌^◌, ◌<◌, ◌≤◌, ◌==◌, count_by, Bool, true, false, List, [], ◌∷◌, ◌++◌, length, map, Option, Some, None, IfSome, refl, sym, ap, subst, ◌∙◌, arith, slice_get, slice_set, option_map, if◌then◌else◌}, lemmas.{Bool.Decides.nat_tests, List.{length-map, map-append, map-set, set-set}, Option.slice_get-map}}
 use Rattle.exec_outcomes.specs.{Accounts.is_durable, declared.outcome.Outcome.Outcome}
 use Rattle.exec_request.specs.{Requests.{asked_of, cursor_of, deadline_of, target_of}, declared.request.Request.Request as Asking}
 use Rattle.exec_ring.specs.Stores.{Reserves}
@@ -9,8 +9,7 @@ use Rattle.exec_task.specs.{Phases.is_polled, Sight.Sight, declared.body.{Act.Ac
 use Rattle.exec_machine.specs.{declared.{config.Configuration.Configuration, event.Event.Event, state.{Forwarding.TheVariants.Unsent, Request.Request, Waiting.Waiting}}, Progress.Plan, Requests.{new_request, outcome_if_late, resolved_if}}
 use Rattle.exec_moves.specs.declared.{handing.AfterCallbacks.AfterCallbacks, place.{InCallbacks.InCallbacks, InPoll.InPoll, Place.Place}}
 use Rattle.exec_parts.{specs.{declared.parts.{record.Record.Record, seat.Seat.Seat as Chair, shared.Shared.Shared, sleeping.SleeperRecord.SleeperRecord, task_slot.TaskSlot.TaskSlot, worker.Worker.Worker}, Records.{file_named, numbers_held, operation_in, outcome_in, seen_in}, Scripts.{IsAnswer, IsPlainRequest, held_after}, Spots.Spot, View.{Views, account_seen, body_in, driver_of, task_seen}}, proofs.Facts.{by_number, same_Some, set_there}}
-use Rattle.exec_invariants.specs.Admitting.{Registers, joins_gate, seeing}
-use Rattle.exec_invariants.{specs.{Acting.{HasActed, StillPerforms}, Gates.{AreLinedUp, HaveGates, JoinsGate}, Hearing.{CanHear, held_once_come}, Holding.{Box, IsHolding, MayHave, Nap, Thing, awaited_in, box_of, holder_of, nap_of, thing_of}, Places.{Drops, drops_at}, Sound.{SoundAt}, Whole.{Profile, hands_of, with_worker}, Works.Beside}, proofs.{Gated.durable_of_file, Here.{IsHere, going_on, polled_here}, HoldBeside.{Handles, Holds}, HoldThings.touches_none, Pending.in_poll, Performing.{performs_on, still_performs}, PoolKept.chosen_own, ServingHolds.KeepsBy, SlotTasks.guest_pool, TaskDeals.{Dealt, acts, from_act, sound_dealt}}}
+use Rattle.exec_invariants.{specs.{Admitting.{Registers, joins_gate, seeing}, Acting.{HasActed, StillPerforms}, Gates.{AreLinedUp, HaveGates, JoinsGate}, Hearing.{CanHear, held_once_come}, Holding.{Box, IsHolding, MayHave, Nap, Thing, awaited_in, box_of, holder_of, nap_of, thing_of}, Places.{Drops, drops_at}, Sound.SoundAt, Whole.{Profile, hands_of, with_worker}, Works.Beside}, proofs.{Gated.durable_of_file, Here.{IsHere, going_on, polled_here}, HoldBeside.{Handles, Holds}, HoldThings.touches_none, Pending.in_poll, Performing.{performs_on, still_performs}, PoolKept.chosen_own, ServingHolds.KeepsBy, SlotTasks.guest_pool, TaskDeals.{Dealt, acts, from_act, sound_dealt}}}
 use Rattle.exec_polling.proofs.{Admitted.IsFew, IsComing.IsComing, Enlisted.{has_its_open, keeps_now, late_plain, made_early, made_late, opened, operation, record_made, registered_made, wakes_now}, Enlists.flat, RegisterBeside.{beside_joins, beside_made}, RegisterHolds.{MayHold, holding_registered}, MadePlaces.{holding_placed, placed_in}, RegisterOpens.{IsRegistered, Opened, covers_then, gates_then, hints_then, joins_then, lined_then}, RegisterSound.{Makes, MakesAt, grows_last, grows_same, made_at, sound_joins, sound_made}, Unbegun.{unbegun, wanted}}
 
 -- nothing is visible of anybody

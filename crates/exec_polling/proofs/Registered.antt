@@ -4,11 +4,10 @@ use Rattle.exec_outcomes.specs.{Accounts.{is_durable, changed as account_changed
 use Rattle.exec_request.specs.{Requests.{asked_of, deadline_of, target_of}, declared.request.Request.Request as Asking}
 use Rattle.exec_opens.specs.Opens.{account_in}
 use Rattle.exec_task.specs.{Sight.Sight, declared.body.{Act.Act, Said.Said}}
-use Rattle.exec_machine.specs.{Choice.Choice.Plain, declared.{config.{Configuration.Configuration, ScriptWord.ScriptWord}, event.Event.{Event, TheVariants.Admit}, state.{Operation.Operation}}, Progress.Plan, Requests.{account_after_admit, asked_now, asks_kind, new_request, operation_asked, operation_or_none, outcome_if_late, own_after_admit, resolved_if, with_seen}, Same.{same_end, same_kind}, Tests.{is_of_file, is_open}, Words.{moved_on, next_word}, World.{Task, Common, no_open, open_of, task_of}}
+use Rattle.exec_machine.specs.{Choice.Choice.Plain, declared.{config.{Configuration.Configuration, ScriptWord.ScriptWord}, event.Event.{Event, TheVariants.Admit}, state.Operation.Operation}, Progress.Plan, Requests.{account_after_admit, asked_now, asks_kind, new_request, operation_asked, operation_or_none, outcome_if_late, own_after_admit, resolved_if, with_seen}, Same.{same_end, same_kind}, Tests.{is_of_file, is_open}, Words.{moved_on, next_word}, World.{Task, Common, no_open, open_of, task_of}}
 use Rattle.exec_moves.specs.{Poll.act_asked, Slots.entered, State.{Desk, Moved, Things}, declared.place.{InPoll.InPoll, Place.Place}}
 use Rattle.exec_parts.specs.{declared.parts.{record.Record.Record, shared.Shared.Shared, sleeping.SleeperRecord.SleeperRecord, worker.Worker.Worker}, Records.{file_named, numbers_held, operation_in, seen_in}, Scripts.IsAnswered, Spots.{Spot, spot_of}, View.{Views, account_seen, common_of, desk_of, driver_of, gate_seen, numbers_of_passing, open_seen, own_of, slots_seen, task_seen, things_with, visible, with_view}}
-use Rattle.exec_invariants.specs.Admitting.{Registers, seeing}
-use Rattle.exec_invariants.{specs.{Acting.{HasActed, Performs, PerformsAll, StepsOf}, Works.{Suits, Works}}, proofs.{Seats.own_seat, Acting.{IsPlainWord, acts_so, me_at, moved_seen, moves_so}, Slots.task_there, Turning.view_found}}
+use Rattle.exec_invariants.{specs.{Admitting.{Registers, seeing}, Acting.{HasActed, Performs, PerformsAll, StepsOf}, Works.{Suits, Works}}, proofs.{Seats.own_seat, Acting.{IsPlainWord, acts_so, me_at, moved_seen, moves_so}, Slots.task_there, Turning.view_found}}
 use Rattle.exec_polling.proofs.{Enlisted.has_its_open, Enlists.{desk_asked, own_asked, visible_asked}, RegisterOpens.{gates_seen_then, opens_seen_then, seen_then}, RegisterSeen.{SeesAlike, common_then, seats_alike, things_then, unsent_last}, RegisterStep.{comes, covers, goes_on, held_is, how, items_are, makes, performs_asked, polled_is, reg, registered, sleepers_are, slot_is, waits_is}, Unbegun.{same_late, wanted}}
 
 module _ {B L : Type 0} (left : B → L) (spot : L → Option Said → Spot) where

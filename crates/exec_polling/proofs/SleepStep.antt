@@ -1,18 +1,15 @@
 -- The act by which a task sleeps: what holds then, and what that leaves of others.
-use Rattle.std.{proofs.{Common.{◌≡◌, ◌⊎◌, inl, inr, ℕ, suc, ◌+◌, ◌<◌, ◌≤◌, ◌||◌, min, Bool, true, false, List, [], ◌∷◌, ◌++◌, length, map, Option, Some, None, refl, sym, ap, subst, ◌∙◌, arith, slice_get, slice_set, option_map, ◌==◌, count_by}, lemmas.{Bool.{false≢true, Decides.nat_tests}, List.{append-nil, length-map, map-append, map-set, set-set}, Option.{slice_get-map, slice_get_within}}}}
-use Rattle.exec_base.specs.{Slab.{IsPast, Slab, TakesId, inserted, is_live, live_count, next_id}, declared.{limits.TheConstants.LONGEST_TIMEOUT}}
+use Rattle.std.proofs.{Common.{◌≡◌, ◌⊎◌, inl, inr, ℕ, suc, ◌+◌, ◌<◌, ◌≤◌, ◌||◌, min, Bool, true, false, List, [], ◌∷◌, ◌++◌, length, map, Option, Some, None, refl, sym, ap, subst, ◌∙◌, arith, slice_get, slice_set, option_map, ◌==◌, count_by}, lemmas.{Bool.{false≢true, Decides.nat_tests}, List.{append-nil, length-map, map-append, map-set, set-set}, Option.{slice_get-map, slice_get_within}}}
+use Rattle.exec_base.specs.{Slab.{IsPast, Slab, TakesId, inserted, is_live, live_count, next_id}, declared.limits.TheConstants.LONGEST_TIMEOUT}
 use Rattle.exec_time.specs.declared.timers.{Sleeper.Sleeper as Sleeping, Observer.Observer}
 use Rattle.exec_ring.specs.Stores.{HasStretch}
 use Rattle.exec_driver.specs.Driving.{seen}
 use Rattle.exec_task.specs.{Phases.is_polled, Sight.Sight, declared.body.{Act.Act, Said.Said}}
 use Rattle.exec_machine.specs.{Progress.Plan, declared.{event.Event.Event, state.{Forwarding.TheVariants.Unsent, Sleeper.Sleeper as Asleep, Waiting.Waiting}}}
 use Rattle.exec_moves.specs.declared.{handing.AfterCallbacks.AfterCallbacks, place.{InCallbacks.InCallbacks, InPoll.InPoll, Place.Place}}
-use Rattle.exec_parts.{specs.{declared.parts.{mail.Reply.Reply, seat.Seat.Seat as Chair, shared.Shared.Shared, task_slot.TaskSlot.TaskSlot, worker.Worker.Worker}, Records.numbers_held, Scripts.{IsAnswer, held_after}, Calls.IsTold, Spots.Spot, View.{Views, body_in, driver_of, task_seen}}, proofs.Facts.{by_number, same_Some, set_there}}
-use Rattle.exec_invariants.{specs.Admitting.{Sleeps, most_told}, proofs.Taken.{got_new, takes_inserted}}
-use Rattle.exec_polling.proofs.Growing.{told_same}
-use Rattle.exec_invariants.{specs.{Acting.{HasActed, StillPerforms}, Gates.{HaveGates, IsKnown, has_hint_at}, Hearing.{CanHear, held_once_come}, Holding.{Box, IsHolding, Nap, Thing, awaited_in, box_of, holder_of, nap_of, thing_of}, Sound.SoundAt, Names.tellers, Whole.{Profile, hands_of, with_worker}, Works.Beside}, proofs.{Here.{IsHere, going_on, polled_here}, HoldBeside.{Handles, Holds}, HoldThings.touches_none, Pending.in_poll, Performing.{performs_on, still_performs}, Resolving.places_fewer, ServingHolds.KeepsBy, SlotTasks.guest_pool, TaskDeals.{Dealt, ends, from_act, sound_dealt}, Untold.rooted_told}}
-use Rattle.exec_polling.proofs.{Dozing.{OneDozes, asleep_dozes, carried_dozes, flown_dozes, named_dozes, order_dozes, over_dozes, rooted_dozes, timed_dozes}, Enlisted.wide_places, Rooms.few_tellers, RegisterBeside.beside_made, RegisterHolds.{MayHold, holding_slept}, MadePlaces.{holding_placed, placed_in}, RegisterSound.{Makes, MakesAt, grows_last, grows_same, made_at, sound_made}, RegisterStep.may_have}
-use Rattle.exec_parts.specs.declared.parts.mail.Subject.TheVariants as subject
+use Rattle.exec_parts.{specs.{declared.parts.{mail.{Reply.Reply, Subject.Subject as subject}, seat.Seat.Seat as Chair, shared.Shared.Shared, task_slot.TaskSlot.TaskSlot, worker.Worker.Worker}, Records.numbers_held, Scripts.{IsAnswer, held_after}, Calls.IsTold, Spots.Spot, View.{Views, body_in, driver_of, task_seen}}, proofs.Facts.{by_number, same_Some, set_there}}
+use Rattle.exec_invariants.{specs.{Admitting.{Sleeps, most_told}, Acting.{HasActed, StillPerforms}, Gates.{HaveGates, IsKnown, has_hint_at}, Hearing.{CanHear, held_once_come}, Holding.{Box, IsHolding, Nap, Thing, awaited_in, box_of, holder_of, nap_of, thing_of}, Sound.SoundAt, Names.tellers, Whole.{Profile, hands_of, with_worker}, Works.Beside}, proofs.{Taken.{got_new, takes_inserted}, Here.{IsHere, going_on, polled_here}, HoldBeside.{Handles, Holds}, HoldThings.touches_none, Pending.in_poll, Performing.{performs_on, still_performs}, Resolving.places_fewer, ServingHolds.KeepsBy, SlotTasks.guest_pool, TaskDeals.{Dealt, ends, from_act, sound_dealt}, Untold.rooted_told}}
+use Rattle.exec_polling.proofs.{Growing.told_same, Dozing.{OneDozes, asleep_dozes, carried_dozes, flown_dozes, named_dozes, order_dozes, over_dozes, rooted_dozes, timed_dozes}, Enlisted.wide_places, Rooms.few_tellers, RegisterBeside.beside_made, RegisterHolds.{MayHold, holding_slept}, MadePlaces.{holding_placed, placed_in}, RegisterSound.{Makes, MakesAt, grows_last, grows_same, made_at, sound_made}, RegisterStep.may_have}
 
 -- nothing is visible of anybody
 abbrev no_views : Views

@@ -2,11 +2,10 @@
 use Rattle.std.proofs.{Common.{◌≡◌, ℕ, zero, suc, ◌+◌, List, [], ◌∷◌, ◌++◌, length, map, min, Option, Some, None, refl, sym, ap, subst, ◌∙◌, slice_set, arith}, lemmas.{Bool.eq-eqb, List.{append-nil, length-map, map-append, map-set}}}
 use Rattle.exec_base.specs.declared.limits.TheConstants.{LONGEST_TIMEOUT}
 use Rattle.exec_task.specs.{Sight.Sight, declared.body.{Act.Act, Said.Said}}
-use Rattle.exec_machine.specs.{Deadlines.new_sleeper, declared.{event.Event.{Event, TheVariants.Timer}, state.Waiting.Waiting}, Progress.Plan, Words.{moved_on}, World.{Task, task_of}}
+use Rattle.exec_machine.specs.{Deadlines.new_sleeper, declared.{event.Event.{Event, TheVariants.Timer}, state.Waiting.Waiting}, Progress.Plan, Words.moved_on, World.{Task, task_of}}
 use Rattle.exec_moves.specs.{Slots.entered, declared.place.{InPoll.InPoll, Place.Place}}
 use Rattle.exec_parts.specs.{declared.parts.{record.Record.Record, shared.Shared.Shared, sleeping.SleeperRecord.SleeperRecord, worker.Worker.Worker}, Spots.Spot, View.{Views, common_of, desk_of, gate_seen, numbers_of_passing, open_seen, own_of, slots_seen, task_seen, visible, with_view}}
-use Rattle.exec_invariants.specs.Admitting.{Sleeps}
-use Rattle.exec_invariants.{specs.{Acting.{HasActed, Performs, PerformsAll, StepsOf}, Works.{Suits, Works}}, proofs.{Acting.{acts_so, moved_seen, moves_so}, Slots.task_there, Turning.view_found}}
+use Rattle.exec_invariants.{specs.{Admitting.Sleeps, Acting.{HasActed, Performs, PerformsAll, StepsOf}, Works.{Suits, Works}}, proofs.{Acting.{acts_so, moved_seen, moves_so}, Slots.task_there, Turning.view_found}}
 use Rattle.exec_polling.proofs.{RegisterSeen.{SeesAlike, common_then, seats_alike, seen_with, things_then, unsent_last}, RegisterSlots.slots_entered, SleepStep.{driver_is, flat, flat_shared, goes_on, held_is, items_are, makes, next_is, one_dozes, performs_slept, polled_is, requests_are, slot_is, so, timers_are, waits_is}}
 
 module _ {B L : Type 0} (left : B → L) (runs : L → Plan → Option ℕ → Type 0) (holds : L → Option Said → List ℕ) (spot : L → Option Said → Spot) (gives : L → Option Sight → Said → Act B → L → Option Sight → Type 0)

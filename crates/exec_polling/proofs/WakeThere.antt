@@ -1,13 +1,12 @@
 -- The act by which a task wakes the root of another worker: that worker is sent a message.
-use Rattle.std.proofs.{Common.{MatchBool, ◌≡◌, ◌≢◌, ℕ, ◌<◌, ◌≤◌, ◌==◌, arith, Bool, true, false, not, List, [], length, map, Option, Some, None, get_or, refl, sym, ap, subst, ◌∙◌, slice_get, slice_set}, lemmas.{Bool.{eq-eqb}, List.{length-set, map-set}, Option.{get_or_from_slice_get, slice_get-get_or, slice_get_within}}}
+use Rattle.std.proofs.{Common.{MatchBool, ◌≡◌, ◌≢◌, ℕ, ◌<◌, ◌≤◌, ◌==◌, arith, Bool, true, false, not, List, [], length, map, Option, Some, None, get_or, refl, sym, ap, subst, ◌∙◌, slice_get, slice_set}, lemmas.{Bool.eq-eqb, List.{length-set, map-set}, Option.{get_or_from_slice_get, slice_get-get_or, slice_get_within}}}
 use Rattle.exec_base.specs.declared.task_no.TaskNo.{TaskNo}
 use Rattle.exec_words.specs.Queue.{tail_of}
 use Rattle.exec_task.specs.{Sight.Sight, declared.body.{Act.Act, Said.Said}}
 use Rattle.exec_machine.specs.{Choice.Payer.ByAct, declared.{config.{Configuration.Configuration, ScriptWord.ScriptWord}, event.Event.Event, state.{MailMessage.TheVariants.Root, Waiting.Waiting}}, After.{own_after, common_after}, Allowed.allowed, Mail.{asks_root_of, has_root_message, meets_closed}, Progress.Plan, Tests.AllTrue, Words.{moved_on, next_word}, World.{Common, no_seat, seat_of, task_of}}
-use Rattle.exec_moves.specs.{Move.move_wake, Send.{after_posting, send_root}, State.{Desk, Things, goes}, Thing.{mailbox_of, set_mailbox, with_mailbox}, declared.{handing.{AfterSend.AfterSend}, place.{InPoll.InPoll, Place.Place}}}
+use Rattle.exec_moves.specs.{Move.move_wake, Send.{after_posting, send_root}, State.{Desk, Things, goes}, Thing.{mailbox_of, set_mailbox, with_mailbox}, declared.{handing.AfterSend.AfterSend, place.{InPoll.InPoll, Place.Place}}}
 use Rattle.exec_parts.{specs.{declared.parts.{seat.Seat.Seat as Chair, shared.Shared.Shared, task_slot.TaskSlot.TaskSlot, worker.Worker.Worker}, MailPosts.HaveMailboxes, Polls.OfSlot, Pooled.{Sends, WakesBy, WakesHere, WakesTask, asks_if_sent}, Scripts.IsAnswered, Spots.{Spot, spot_of}, View.{Views, Visible, common_of, desk_of, own_of, seat_seen, seats_seen, task_seen, things_with, visible, with_view}}, proofs.Facts.{not_same, set_elsewhere}}
-use Rattle.exec_invariants.proofs.Showing.{own_word_seen}
-use Rattle.exec_invariants.{specs.{Acting.{HasActed, StepsOf}, Holding.{holder_of, nap_of, thing_of}, Sound.{AreHome, SoundAt}, Whole.{hands_of, with_worker}, Works.{Beside, Suits, Works}}, proofs.{RootMail.holding_posted, Dedicated.as_long, Acting.{Leaves, acts_so, act_leaves, actor, by_word, me_at, moved_seen, tells_on}, Aside.{beside_boxed, profile_alike, queues_set, seats_other}, Performing.still_performs, PoolKept.{gate_spared, gates_set}, Posting.{Arrival, IsArrival, arrival, asks_as, asks_by, chair_by, choice_by, event_as, event_by, inbox_seen, mailbox_by, posted_as, posted_shows, posted_spares, posting_as, root_message_as, seat_as, seat_by}, Seats.{chair_set, seat_there as seen_there}, SlotTasks.{Keeps as Same, homes_set}, Slots.task_there, SparedRecord.there_within, Stirs.{ToldFirst, before}, TaskAsks.{led_to, leads_to, to_act}, Turning.{Fits, Lands, arrives, by_place, set_found, sound_on, view_found}}}
+use Rattle.exec_invariants.{proofs.{Showing.own_word_seen, RootMail.holding_posted, Dedicated.as_long, Acting.{Leaves, acts_so, act_leaves, actor, by_word, me_at, moved_seen, tells_on}, Aside.{beside_boxed, profile_alike, queues_set, seats_other}, Performing.still_performs, PoolKept.{gate_spared, gates_set}, Posting.{Arrival, IsArrival, arrival, asks_as, asks_by, chair_by, choice_by, event_as, event_by, inbox_seen, mailbox_by, posted_as, posted_shows, posted_spares, posting_as, root_message_as, seat_as, seat_by}, Seats.{chair_set, seat_there as seen_there}, SlotTasks.{Keeps as Same, homes_set}, Slots.task_there, SparedRecord.there_within, Stirs.{ToldFirst, before}, TaskAsks.{led_to, leads_to, to_act}, Turning.{Fits, Lands, arrives, by_place, set_found, sound_on, view_found}}, specs.{Acting.{HasActed, StepsOf}, Holding.{holder_of, nap_of, thing_of}, Sound.{AreHome, SoundAt}, Whole.{hands_of, with_worker}, Works.{Beside, Suits, Works}}}
 use Rattle.exec_polling.proofs.Stirred.{performs_passing, spares_on}
 
 same_queue : (a : Arrival) (chair : Chair) → (chair_by a chair).queue ≡ chair.queue

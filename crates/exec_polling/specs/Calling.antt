@@ -5,13 +5,8 @@
 use Rattle.std.specs.Prelude.{◌≡◌, ℕ, ◌+◌, ◌^◌, ◌<◌, ◌≤◌, ◌==◌, ◌&&◌, nat_lt, Bool, true, false, Contains, List, [], ◌∷◌, length, slice_get, slice_set, Option, option_map, option_to_list, Some, None, IsSome, if◌then◌else◌}
 use Rattle.exec_words.specs.{Idle.{Idle, lowest_of}, Word.asks_signal, declared.{mailbox.Mailbox.Mailbox, word.PureWord.PureWord}}
 use Rattle.exec_task.specs.{Phases.{is_idle, runnable_of}, declared.{body.Said.Said, runnable.Runnable.Runnable}}
-use Rattle.exec_machine.specs.{declared.{event.Event.Event, state.{Call.Call, MailMessage.TheVariants.Root}, step.Action.Action}, Callers.{common_by, may_call, may_go_on, may_go_on_by, may_spawn_by_call, may_wake_by_call}, Choice.Choice, Progress.Plan, Tests.{AllTrue, is_resolved}, World.Common}
-use Rattle.exec_machine.specs.declared.state.Call.TheVariants as half
-use Rattle.exec_machine.specs.declared.step.Action.TheVariants as action
-use Rattle.exec_moves.specs.{Call.CallDesk, Claim.{is_ring, set_of}, Global.has_any, MoveOfCaller.move_of_caller, Pop.shard_count, declared.handing.CallPlace.CallPlace}
-use Rattle.exec_moves.specs.declared.handing.CallPlace.TheVariants as call
-use Rattle.exec_moves.specs.declared.handing.InGlobal.TheVariants as global
-use Rattle.exec_moves.specs.declared.handing.InSignal.TheVariants as signals
+use Rattle.exec_machine.specs.{declared.{event.Event.Event, state.{Call.{Call, Call as half}, MailMessage.TheVariants.Root}, step.Action.{Action, Action as action}}, Callers.{common_by, may_call, may_go_on, may_go_on_by, may_spawn_by_call, may_wake_by_call}, Choice.Choice, Progress.Plan, Tests.{AllTrue, is_resolved}, World.Common}
+use Rattle.exec_moves.specs.{Call.CallDesk, Claim.{is_ring, set_of}, Global.has_any, MoveOfCaller.move_of_caller, Pop.shard_count, declared.handing.{CallPlace.{CallPlace, CallPlace as call}, InGlobal.InGlobal as global, InSignal.InSignal as signals}}
 use Rattle.exec_parts.specs.{declared.parts.{mail.Subject.Subject, record.Record.Record, shared.Shared.Shared, task_slot.TaskSlot.TaskSlot}, Pooled.asks_if_sent, Scripts.{Begins, IsBorn}, Spots.Spot, View.{Views, common_of, things_with}}
 use Rattle.exec_polling.specs.declared.caller.Caller.{Caller}
 use Rattle.exec_invariants.specs.{Acting.PerformsAll, Hearing.Hears, Places.one_if, Sound.{AreHome, AreResting, IsConfig, IsInHand}, Spares.Spares, Whole.{IsGenuine, IsWhole, Profile, runnables_in}}

@@ -9,12 +9,11 @@
 
 ghost use Rattle.exec_invariants.specs.{Acting.{PerformsOne, StepsWith}, Sound.SoundAt, Whole.HasWhole, Works.Same};
 ghost use Rattle.std.specs.Prelude.{◌≡◌, ◌<◌, true, IfOk, OnErr, None, IsSome, length, is_some, Some, if◌then◌else◌};
-ghost use Rattle.exec_task.specs.Phases.{queued_body, runnable_of};
-ghost use Rattle.exec_task.specs.declared.body.Said.TheVariants as said;
-ghost use Rattle.exec_machine.specs.declared.state.Waiting.TheVariants as waiting;
+ghost use Rattle.exec_task.specs.{Phases.{queued_body, runnable_of}, declared.body.Said.Said as said};
 ghost use Rattle.exec_machine.specs.Tasks.{begun_waiting};
 ghost use Rattle.exec_moves.specs.{Parts.next_pick as place_of_pick, Poll.after_begin};
 ghost use Rattle.exec_parts.specs.{Awaits.{AwaitsNewest, DropsRequest, HasNewest, OfNewest, newest_of}, Ending.{MayPend, PendsTask}, Polls.{MadeAct, OfSlot, begun_slot_if, yielded_slot}, Pooled.queued_again, Tests.after_poll_of, View.desk_of, Things.TurnsSlot};
+ghost use Rattle.exec_machine.specs.declared.state.Waiting.TheVariants as waiting;
 
 use crate::registering::{drop_request, join_gate, register, sleep_for};
 use crate::resuming::{await_request, resume};

@@ -1,24 +1,11 @@
 -- The wake word of each worker says what it waits on, and none ends a wait of its own: so it is in the first state, and each step keeps it.
-use Rattle.std.proofs.Common.{◌≡◌, ◌≢◌, ℕ, ◌<◌, ◌==◌, Bool, true, false, length, if◌then◌else◌, get_or, set, refl, sym, ap, ◌∙◌, arith, inl, inr}
-use Rattle.std.proofs.lemmas.{Bool.{and_parts, cases_Bool, cases_eq, cases_lt, false≢true}, List.{get_or_past, get_or-set_same}}
-use Rattle.std.specs.Prelude.{nat_lt}
+use Rattle.std.{proofs.{Common.{◌≡◌, ◌≢◌, ℕ, ◌<◌, ◌==◌, Bool, true, false, length, if◌then◌else◌, get_or, set, refl, sym, ap, ◌∙◌, arith, inl, inr}, lemmas.{Bool.{and_parts, cases_Bool, cases_eq, cases_lt, false≢true}, List.{get_or_past, get_or-set_same}}}, specs.Prelude.nat_lt}
 use Rattle.exec_words.specs.{declared.word.{PureWord.PureWord, WaitTarget.WaitTarget}, Queue.head_of, Word.{asks_signal, is_idle_at}}
+use Rattle.exec_machine.specs.{declared.{config.Configuration.Configuration, step.Action.{Action, Action as action}}, Callers.is_enabled, Deadlines.next_due, Progress.Plan, World.{Common, Own as Books, own_of}}
+use Rattle.exec_moves.specs.{declared.{handing.{AfterSignal.AfterSignal, InSignal.InSignal as signals}, idling.{InRingWait.{InRingWait, InRingWait as ring}, Stay.Stay, AfterWait.AfterWait as later, InLook.InLook as look, InScan.InScan as scan, InWordWait.InWordWait as word}, place.{AfterPermit.AfterPermit, Place.{Place, Place as at}, Service.Service, InService.InService as step}}, Callback.is_of_pool, Claim.is_ring, Load.{has_come, has_mail}, Move.{move, move_at}, Parts.after_signal, Plays.{Playing, by_action, by_move, by_step, caller_of, desk_of, first_desk, first_playing}, Pop.same_head, Search.from_of, Serve.{Ring, after_permit, entered as taken}, State.{Desk, Moved, Things, no_word, queue_of, taken_in, word_of}, Thing.ring_of, Wait.{enter_ring, has_completion, sleep_on_word}}
+use Rattle.exec_rest.{specs.{AtRest.IsPlaced, Places.waits_on, Rested.{IsLaidOut, IsRaised, IsRestful, place_at}}, proofs.{Calls.at_nothing, CallMoves.{call_heeds, spawn_heeds, wake_heeds}, First.of_equal, Frames.{desk_other, desk_own}, Heeds.Heeds, Others.{beside, is_other}, Step.heeds_at}}
+use Rattle.exec_progress.{specs.{Going.{has_called_back, loads_queues, raises_itself}, Owed.quiet_items, Paced.{AreAimed, HavePace}}, proofs.{Pace.each_first, PaceParts.{is_wild, Calm, calm_raises, calm_waits, headed, permitted, signalled, withdrawing}, PaceMoves.in_place, WordMoves.target_kept}}
 use Rattle.exec_words.specs.declared.word.WaitTarget.TheVariants as target
-use Rattle.exec_machine.specs.{declared.{config.Configuration.Configuration, step.Action.Action}, Callers.{is_enabled}, Deadlines.next_due, Progress.Plan, World.{Common, Own as Books, own_of}}
-use Rattle.exec_machine.specs.declared.step.Action.TheVariants as action
-use Rattle.exec_moves.specs.{declared.{handing.AfterSignal.AfterSignal, idling.{InRingWait.InRingWait, Stay.Stay}, place.{AfterPermit.AfterPermit, Place.Place, Service.Service}}, Callback.is_of_pool, Claim.is_ring, Load.{has_come, has_mail}, Move.{move, move_at}, Parts.after_signal, Plays.{Playing, by_action, by_move, by_step, caller_of, desk_of, first_desk, first_playing}, Pop.same_head, Search.from_of, Serve.{Ring, after_permit, entered as taken}, State.{Desk, Moved, Things, no_word, queue_of, taken_in, word_of}, Thing.ring_of, Wait.{enter_ring, has_completion, sleep_on_word}}
-use Rattle.exec_moves.specs.declared.handing.InSignal.TheVariants as signals
-use Rattle.exec_moves.specs.declared.idling.AfterWait.TheVariants as later
-use Rattle.exec_moves.specs.declared.idling.InLook.TheVariants as look
-use Rattle.exec_moves.specs.declared.idling.InRingWait.TheVariants as ring
-use Rattle.exec_moves.specs.declared.idling.InScan.TheVariants as scan
-use Rattle.exec_moves.specs.declared.idling.InWordWait.TheVariants as word
-use Rattle.exec_moves.specs.declared.place.InService.TheVariants as step
-use Rattle.exec_moves.specs.declared.place.Place.TheVariants as at
-use Rattle.exec_rest.specs.{AtRest.IsPlaced, Places.waits_on, Rested.{IsLaidOut, IsRaised, IsRestful, place_at}}
-use Rattle.exec_rest.proofs.{Calls.at_nothing, CallMoves.{call_heeds, spawn_heeds, wake_heeds}, First.of_equal, Frames.{desk_other, desk_own}, Heeds.Heeds, Others.{beside, is_other}, Step.heeds_at}
-use Rattle.exec_progress.specs.{Going.{has_called_back, loads_queues, raises_itself}, Owed.quiet_items, Paced.{AreAimed, HavePace}}
-use Rattle.exec_progress.proofs.{Pace.each_first, PaceParts.{is_wild, Calm, calm_raises, calm_waits, headed, permitted, signalled, withdrawing}, PaceMoves.in_place, WordMoves.target_kept}
 
 -- THE FIRST STATE
 

@@ -1,10 +1,8 @@
 -- What each destination is that the parts lead to.
-use Rattle.std.proofs.Common.{◌≡◌, ℕ, suc, ◌==◌, ◌<◌, Bool, true, false, ◌&&◌, ◌||◌, if◌then◌else◌, List, [], ◌∷◌, refl, arith}
-use Rattle.std.proofs.lemmas.{Bool.{true≢false}}
+use Rattle.std.proofs.{Common.{◌≡◌, ℕ, suc, ◌==◌, ◌<◌, Bool, true, false, ◌&&◌, ◌||◌, if◌then◌else◌, List, [], ◌∷◌, refl, arith}, lemmas.Bool.true≢false}
 use Rattle.exec_machine.specs.{declared.{config.Configuration.Configuration, state.{Letter.Letter, Next.Next}}, Ranges.ring_size, World.{Common, Own as Books}}
 use Rattle.exec_moves.specs.{declared.{handing.{AfterCallbacks.AfterCallbacks, AfterCancels.AfterCancels, AfterClaim.AfterClaim, AfterKick.AfterKick, AfterLeave.AfterLeave, AfterPush.AfterPush, AfterSend.AfterSend, AfterSignal.AfterSignal}, place.{AfterService.AfterService, InCallbacks.InCallbacks, InPick.InPick, InPoll.InPoll, Place.Place}}, Callback.{after_callbacks, has_callbacks, has_requests, serve}, Load.has_submissions, Parts.{after_kick, after_leave, after_push, after_send, after_signal, cancels_left}, State.{Desk, Things}}
-use Rattle.exec_progress.specs.Heights.{call_back}
-use Rattle.exec_progress.{specs.{Effort.{is_short_kick, is_short_leave, is_short_push, is_short_send, is_short_signal, stagings_of_callbacks, stagings_of_kick, stagings_of_leave, stagings_of_push, stagings_of_signal}, Going.{closes_callbacks, closes_cancels, closes_kick, closes_push, closes_send, closes_signal, seen, stands}, Owed.{beginning, stage_of_callbacks, stage_of_kick, stage_of_leave, stage_of_pick, stage_of_push, stage_of_send, stage_of_signal}, Ranks.{below_callbacks, below_kick, below_leave, below_push, below_send, below_signal, count_down, next_turn}}, proofs.{Dropping.drops, Hopping.{Gets, Kept, Leaves, desk_at, hops, later}, Tools.{before, left}}}
+use Rattle.exec_progress.{specs.{Heights.call_back, Effort.{is_short_kick, is_short_leave, is_short_push, is_short_send, is_short_signal, stagings_of_callbacks, stagings_of_kick, stagings_of_leave, stagings_of_push, stagings_of_signal}, Going.{closes_callbacks, closes_cancels, closes_kick, closes_push, closes_send, closes_signal, seen, stands}, Owed.{beginning, stage_of_callbacks, stage_of_kick, stage_of_leave, stage_of_pick, stage_of_push, stage_of_send, stage_of_signal}, Ranks.{below_callbacks, below_kick, below_leave, below_push, below_send, below_signal, count_down, next_turn}}, proofs.{Dropping.drops, Hopping.{Gets, Kept, Leaves, desk_at, hops, later}, Tools.{before, left}}}
 
 both : (m n k : ℕ) → m < n → n < k → m < k
 both m n k h l = omega (arith, h, l)

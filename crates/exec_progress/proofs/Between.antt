@@ -1,6 +1,5 @@
 -- The places of the parts that hand something on, as such that are left and come to; and what stays by their steps.
-use Rattle.std.proofs.Common.{◌≡◌, ℕ, suc, ◌+◌, ◌≤◌, ◌<◌, Bool, true, false, if◌then◌else◌, refl, ap, ◌∙◌, arith}
-use Rattle.std.specs.Prelude.{nat_lt}
+use Rattle.std.{proofs.Common.{◌≡◌, ℕ, suc, ◌+◌, ◌≤◌, ◌<◌, Bool, true, false, if◌then◌else◌, refl, ap, ◌∙◌, arith}, specs.Prelude.nat_lt}
 use Rattle.exec_words.specs.{declared.idle.WorkerSet.WorkerSet, Idle.Idle}
 use Rattle.exec_machine.specs.{declared.config.Configuration.Configuration, World.{Common, Own as Books}}
 use Rattle.exec_moves.specs.{declared.{handing.{AfterClaim.AfterClaim, AfterKick.AfterKick, AfterLeave.AfterLeave, AfterPush.AfterPush, AfterSignal.AfterSignal, InGlobal.InGlobal, InKick.InKick, InPush.InPush, InSignal.InSignal}, place.Place.Place}, Claim.{same_bools, set_of}, Global.has_any, State.{Desk, Things, word_of}, Thing.set_idle}

@@ -1,14 +1,10 @@
 -- No worker that isn't closing ever has as many quiet steps left as the bound.
-use Rattle.std.proofs.Common.{◌≡◌, ℕ, ◌+◌, ◌*◌, ◌≤◌, ◌<◌, Bool, true, false, not, ◌&&◌, ◌||◌, if◌then◌else◌, length, refl, sym, ap, ◌∙◌, subst, arith, ◌⊎◌, inl, inr}
-use Rattle.std.specs.Prelude.{is_some, nat_lt}
-use Rattle.std.proofs.lemmas.Bool.{le-ltb}
+use Rattle.std.{proofs.{Common.{◌≡◌, ℕ, ◌+◌, ◌*◌, ◌≤◌, ◌<◌, Bool, true, false, not, ◌&&◌, ◌||◌, if◌then◌else◌, length, refl, sym, ap, ◌∙◌, subst, arith, ◌⊎◌, inl, inr}, lemmas.Bool.le-ltb}, specs.Prelude.{is_some, nat_lt}}
 use Rattle.exec_machine.specs.{declared.config.Configuration.Configuration, Progress.quiet_bound, Ranges.{largest_spin, ring_size}, Tests.is_empty, World.{Common, Own as Books, World, seat_of}}
 use Rattle.exec_moves.specs.{declared.{handing.{AfterCallbacks.AfterCallbacks, AfterClaim.AfterClaim, AfterKick.AfterKick, AfterLeave.AfterLeave, AfterPush.AfterPush, AfterSignal.AfterSignal}, idling.{AfterWait.AfterWait, InRingWait.InRingWait, InWordWait.InWordWait}, place.{AfterService.AfterService, InService.InService, Place.Place, Round.Round}}, Callback.is_full, Counts.{gates_from, one_if}, Load.has_submissions, State.{Desk, Things, word_of, wake_poll_of}}
 use Rattle.exec_credit.specs.Spins.{IsShort}
 use Rattle.exec_rest.specs.Posted.{has_tested}
-use Rattle.exec_progress.specs.{Effort.{begun_gates, gates_left, is_short, scans_again, second_scan, stagings, stagings_of_callbacks, stagings_of_claim, stagings_of_kick, stagings_of_leave, stagings_of_push, stagings_of_service, stagings_of_signal, steps_left, turn_left, whole_spin, whole_turn}, Going.{has_called_back, is_of_closing}, Owed.{ahead, all_others, finds, has_stray, is_before_spin, others, quiet_items, signals_itself, signs, spins_of_signs, spins_owed, stage, staging, turns_owed, wanted}, Ranks.{disarm, rank, withdraw_to_search}}
-use Rattle.exec_progress.proofs.{Gates.{gates_asked, gates_opened, gates_within}, Ranked.{most_rank}, Stages.{Kind, kind}}
-use Rattle.exec_progress.proofs.Entering.{at_most_one}
+use Rattle.exec_progress.{specs.{Effort.{begun_gates, gates_left, is_short, scans_again, second_scan, stagings, stagings_of_callbacks, stagings_of_claim, stagings_of_kick, stagings_of_leave, stagings_of_push, stagings_of_service, stagings_of_signal, steps_left, turn_left, whole_spin, whole_turn}, Going.{has_called_back, is_of_closing}, Owed.{ahead, all_others, finds, has_stray, is_before_spin, others, quiet_items, signals_itself, signs, spins_of_signs, spins_owed, stage, staging, turns_owed, wanted}, Ranks.{disarm, rank, withdraw_to_search}}, proofs.{Gates.{gates_asked, gates_opened, gates_within}, Ranked.most_rank, Stages.{Kind, kind}, Entering.at_most_one}}
 
 -- GATES
 

@@ -1,7 +1,5 @@
 -- The callbacks: a quiet one uses up what is left in them.
-use Rattle.std.proofs.Common.{◌≡◌, ℕ, ◌+◌, ◌-◌, ◌≤◌, ◌<◌, Bool, true, false, not, ◌&&◌, ◌||◌, if◌then◌else◌, List, [], ◌∷◌, drop, Option, Some, None, refl, sym, ap, ◌∙◌, arith}
-use Rattle.std.specs.Prelude.{nat_lt}
-use Rattle.std.proofs.lemmas.Bool.{true≢false, false≢true, ltb-true}
+use Rattle.std.{proofs.{Common.{◌≡◌, ℕ, ◌+◌, ◌-◌, ◌≤◌, ◌<◌, Bool, true, false, not, ◌&&◌, ◌||◌, if◌then◌else◌, List, [], ◌∷◌, drop, Option, Some, None, refl, sym, ap, ◌∙◌, arith}, lemmas.Bool.{true≢false, false≢true, ltb-true}}, specs.Prelude.nat_lt}
 use Rattle.exec_machine.specs.{declared.{config.Configuration.Configuration, event.Event.TheVariants.Turn}, Choice.Choice.Plain, After.{own_after, common_after}, Ranges.ring_size, Tests.{is_done, is_empty}, World.{Common, Own as Books, request_of, sleeper_of, task_of}}
 use Rattle.exec_moves.specs.{declared.{handing.{AfterCallbacks.AfterCallbacks, AfterLeave.AfterLeave, Heard.Heard}, place.{InCallbacks.InCallbacks, InLoads.InLoads, Round.Round, Place.Place}}, Callback.{Item, Item.{Answers, Completes, LetsGo, Nothing, Releases, Wakes}, after_callbacks, first_of, has_callbacks, is_of_pool, next_callback, tells_waiter}, Counts.one_if, Move.{move_at, move_item}, State.{Desk, Things}, Told.in_order}
 use Rattle.exec_progress.{specs.{Going.{Falls, FallsAt, closes_callbacks, seen, stands}, Owed.{calling_back, has_wakes, quiet_items, stage_of_callbacks}, Ranks.{below_callbacks, in_callbacks}}, proofs.Tools.{Now, before, goes_down, keeps_turns, left}}

@@ -1,10 +1,8 @@
 -- A published worker is claimed, and a worker is signalled.
-use Rattle.std.proofs.Common.{◌≡◌, ℕ, ◌+◌, ◌==◌, ◌≤◌, ◌<◌, Bool, true, false, ◌&&◌, if◌then◌else◌, length, ◌≢◌, Option, Some, None, refl, sym, ap, ◌∙◌, arith}
-use Rattle.std.proofs.lemmas.{Bool.{true≢false, false≢true, eq-eqb, eqb-true}, List.{get_or-set_same, get_or-set_other}}
-use Rattle.std.proofs.lemmas.List.Quantifiers.{position-Some}
-use Rattle.exec_words.specs.{declared.{idle.WorkerSet.WorkerSet}, Idle.{Idle, is_in, lowest_of}, Word.asks_signal}
-use Rattle.exec_machine.specs.{declared.{config.Configuration.Configuration, event.Event.{TheVariants.{Turn, Rouse}}}, Tests.is_awake, World.{Common, Own as Books, seat_of}}
-use Rattle.exec_moves.specs.{declared.{handing.{AfterClaim.AfterClaim, AfterSignal.AfterSignal, InSignal.InSignal}, place.Place.Place}, Claim.{after_claim, claimed_if, idle_after, is_ring, latched, raised_if, same_bools, set_of}, Counts.one_if, Global.{has_any}, Parts.after_signal, State.{Desk, Things, goes, turns, does, word_of, wake_poll_of}, Thing.{set_wake_poll, set_word, with_idle, with_wake_poll}}
+use Rattle.std.proofs.{Common.{◌≡◌, ℕ, ◌+◌, ◌==◌, ◌≤◌, ◌<◌, Bool, true, false, ◌&&◌, if◌then◌else◌, length, ◌≢◌, Option, Some, None, refl, sym, ap, ◌∙◌, arith}, lemmas.{Bool.{true≢false, false≢true, eq-eqb, eqb-true}, List.{get_or-set_same, get_or-set_other, Quantifiers.position-Some}}}
+use Rattle.exec_words.specs.{declared.idle.WorkerSet.WorkerSet, Idle.{Idle, is_in, lowest_of}, Word.asks_signal}
+use Rattle.exec_machine.specs.{declared.{config.Configuration.Configuration, event.Event.TheVariants.{Turn, Rouse}}, Tests.is_awake, World.{Common, Own as Books, seat_of}}
+use Rattle.exec_moves.specs.{declared.{handing.{AfterClaim.AfterClaim, AfterSignal.AfterSignal, InSignal.InSignal}, place.Place.Place}, Claim.{after_claim, claimed_if, idle_after, is_ring, latched, raised_if, same_bools, set_of}, Counts.one_if, Global.has_any, Parts.after_signal, State.{Desk, Things, goes, turns, does, word_of, wake_poll_of}, Thing.{set_wake_poll, set_word, with_idle, with_wake_poll}}
 use Rattle.exec_progress.{specs.{Effort.{is_short_claim, is_short_signal, stagings_of_claim, stagings_of_signal}, Going.{Falls, FallsAt, seen, stands}, Owed.{stage_of_claim, stage_of_signal}, Heights.{claim_worker, raise}, Ranks.{below_claim, below_signal}}, proofs.{Arriving.{Reaches, signal_to}, Between.{at_if, comes_claim, comes_signal, idle_kept, leaves_claim, leaves_signal, with_idle as only_idle}, Hopping.{Gets, Kept, hops}}}
 use Rattle.exec_credit.proofs.CallFalls.{same_self}
 

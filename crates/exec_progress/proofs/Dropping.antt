@@ -1,7 +1,5 @@
 -- The callbacks have nothing left, and lead on.
-use Rattle.std.proofs.Common.{◌≡◌, ℕ, ◌<◌, Bool, true, false, if◌then◌else◌, refl, arith}
-use Rattle.std.specs.Prelude.{nat_lt}
-use Rattle.std.proofs.lemmas.{Bool.{true≢false}}
+use Rattle.std.{proofs.{Common.{◌≡◌, ℕ, ◌<◌, Bool, true, false, if◌then◌else◌, refl, arith}, lemmas.Bool.true≢false}, specs.Prelude.nat_lt}
 use Rattle.exec_machine.specs.{declared.config.Configuration.Configuration, Ranges.ring_size, World.{Common, Own as Books}}
 use Rattle.exec_moves.specs.{declared.{handing.AfterCallbacks.AfterCallbacks, place.{InCallbacks.InCallbacks, InLoads.InLoads, Place.Place, Round.Round}}, Callback.{after_callbacks, has_callbacks, is_of_pool}, Counts.one_if, State.{Desk, Things, word_of}}
 use Rattle.exec_progress.{specs.{Going.closes_callbacks, Owed.{has_wakes, quiet_items, sampling, signals_itself}}, proofs.{Hopping.{Gets, Kept, later}, Tools.{before, goes_down, keeps_turns, left, or_more}}}

@@ -1,9 +1,6 @@
 -- What an enter leaves of the signs and of what is owed, at any place of worker i.
-use Rattle.std.proofs.Common.{◌≡◌, ℕ, ◌+◌, ◌*◌, ◌≤◌, ◌<◌, Bool, true, false, not, ◌&&◌, ◌||◌, List, [], ◌∷◌, length, get_or, refl, ap, ◌∙◌, arith, ◌⊎◌, inl, inr}
-use Rattle.std.specs.Prelude.{nat_lt, nat_le, is_some}
-use Rattle.std.proofs.lemmas.{List.{get_or-set_same, set-get_or}}
-use Rattle.std.proofs.Math.Bool.{and-true}
-use Rattle.exec_machine.specs.{declared.{config.Configuration.Configuration, event.Event.TheVariants.{Enter, Busy}}, After.{own_after, common_after}, Choice.Choice.Plain, Ranges.ring_size, Tests.{is_empty}, World.{Common, Own as Books, Seat, no_seat, seat_of}}
+use Rattle.std.{proofs.{Common.{◌≡◌, ℕ, ◌+◌, ◌*◌, ◌≤◌, ◌<◌, Bool, true, false, not, ◌&&◌, ◌||◌, List, [], ◌∷◌, length, get_or, refl, ap, ◌∙◌, arith, ◌⊎◌, inl, inr}, lemmas.List.{get_or-set_same, set-get_or}, Math.Bool.and-true}, specs.Prelude.{nat_lt, nat_le, is_some}}
+use Rattle.exec_machine.specs.{declared.{config.Configuration.Configuration, event.Event.TheVariants.{Enter, Busy}}, After.{own_after, common_after}, Choice.Choice.Plain, Ranges.ring_size, Tests.is_empty, World.{Common, Own as Books, Seat, no_seat, seat_of}}
 use Rattle.exec_moves.specs.{declared.place.Place.Place, Callback.is_full, Counts.{gates_from, one_if}, Load.has_submissions, Serve.entered, State.{Desk, Things, WakePoll, no_wake_poll, taken_in, wake_poll_of, word_of}, Thing.set_wake_poll}
 use Rattle.exec_credit.proofs.Entering.{due_same, gates_same}
 use Rattle.exec_progress.{specs.Owed.{calling_back, finds, has_stray, is_before_spin, quiet_items, reaping, sampling, signals_itself, signs, signs_ahead, stage, staging}, proofs.Tools.{KeepsTurns, Now, PaysWant, ahead_at, others_at, spun, wanted_at, or_more}}

@@ -1,11 +1,8 @@
 -- So many gates are looked at in a staging: no more than there are opens, and no more than there are requests, each of which waits at one.
-use Rattle.std.proofs.Common.{◌≡◌, ℕ, suc, ◌+◌, ◌≤◌, ◌<◌, ◌==◌, Bool, true, false, ◌&&◌, ◌||◌, List, [], ◌∷◌, length, refl, arith}
-use Rattle.std.specs.{Prelude.nat_le, List.list_any}
-use Rattle.std.proofs.lemmas.Bool.{cases_Bool, eqb-true, le-leb}
-use Rattle.exec_machine.specs.{World.{Common, Open}, Tests.{is_gated}, declared.state.Request.Request}
+use Rattle.std.{proofs.{Common.{◌≡◌, ℕ, suc, ◌+◌, ◌≤◌, ◌<◌, ◌==◌, Bool, true, false, ◌&&◌, ◌||◌, List, [], ◌∷◌, length, refl, arith}, lemmas.Bool.{cases_Bool, eqb-true, le-leb}}, specs.{Prelude.nat_le, List.list_any}}
+use Rattle.exec_machine.specs.{World.{Common, Open}, Tests.is_gated, declared.state.Request.Request}
 use Rattle.exec_moves.specs.{Counts.{count_numbered, gates_from, one_if}, Submit.waits_at}
-use Rattle.exec_progress.proofs.Entering.{at_most_one}
-use Rattle.exec_progress.proofs.RingWaits.{never}
+use Rattle.exec_progress.proofs.{Entering.at_most_one, RingWaits.never}
 
 module _ {X : Type 0} where
   sums : (f g h : ℕ → X → Bool) → ((n : ℕ) (x : X) → one_if (f n x) ≤ one_if (g n x) + one_if (h n x)) → (n : ℕ) (xs : List X) → count_numbered f n xs ≤ count_numbered g n xs + count_numbered h n xs

@@ -1,8 +1,7 @@
 -- A step from one place to another of the same stage, by which nothing that is ahead goes, and nothing comes that wasn't wanted.
-use Rattle.std.proofs.Common.{◌≡◌, ℕ, ◌+◌, ◌*◌, ◌==◌, ◌≤◌, ◌<◌, Bool, true, false, not, ◌&&◌, ◌||◌, List, Option, is_some, sym, ap, ◌∙◌, arith}
-use Rattle.std.specs.Prelude.{nat_lt, nat_le}
+use Rattle.std.{proofs.Common.{◌≡◌, ℕ, ◌+◌, ◌*◌, ◌==◌, ◌≤◌, ◌<◌, Bool, true, false, not, ◌&&◌, ◌||◌, List, Option, is_some, sym, ap, ◌∙◌, arith}, specs.Prelude.{nat_lt, nat_le}}
 use Rattle.exec_machine.specs.{declared.{config.Configuration.Configuration, state.Next.Next}, Tests.is_empty, World.{Common, Own as Books}}
-use Rattle.exec_moves.specs.{declared.place.Place.Place, Callback.{is_of_pool}, Counts.{gates_from, one_if}, State.{Desk, Things, queue_of, word_of, wake_poll_of}}
+use Rattle.exec_moves.specs.{declared.place.Place.Place, Callback.is_of_pool, Counts.{gates_from, one_if}, State.{Desk, Things, queue_of, word_of, wake_poll_of}}
 use Rattle.exec_progress.{specs.{Effort.{begun_gates, is_short, scans_again, second_scan, stagings}, Owed.{Signs, can_steal, finds, is_before_spin, pops_own, sampling, signals_itself, signs, signs_ahead, stage, takes_share}, Ranks.rank}, proofs.Tools.{Now, ahead_at, before, goes_down, keeps_turns, left, others_at, spun, to_poll, wanted_at}}
 
 mul_up : (m n v : ℕ) → m ≤ n → m * v ≤ n * v

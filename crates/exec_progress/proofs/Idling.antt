@@ -1,6 +1,5 @@
 -- A step from one place of the search, the scan or the look to another: no sign comes or goes but by what is stolen, and no stage of the turn is ahead.
-use Rattle.std.proofs.Common.{◌≡◌, ℕ, ◌+◌, ◌≤◌, ◌<◌, Bool, true, false, List, if◌then◌else◌, refl, sym, subst, arith}
-use Rattle.std.proofs.lemmas.List.{set-get_or}
+use Rattle.std.proofs.{Common.{◌≡◌, ℕ, ◌+◌, ◌≤◌, ◌<◌, Bool, true, false, List, if◌then◌else◌, refl, sym, subst, arith}, lemmas.List.set-get_or}
 use Rattle.exec_words.specs.{Idle.Idle, Queue.Queue}
 use Rattle.exec_machine.specs.{declared.{config.Configuration.Configuration, event.Event.TheVariants.Turn, state.Next.Next}, World.{Common, Own as Books}, Closing.after_next}
 use Rattle.exec_moves.specs.{declared.{idling.{InLook.InLook, InScan.InScan, InSearch.InSearch}, place.Place.Place}, Seen.next_at, State.{Desk, Things, does, no_queue, queue_of}, Thing.set_queue}

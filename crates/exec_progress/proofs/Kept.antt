@@ -1,14 +1,11 @@
 -- What is carried holds of the first state, and each step keeps it; so each quiet step of a worker costs some of what it has left, of which an open
 -- one never has as much as the bound.
-use Rattle.std.proofs.Common.{◌≡◌, ℕ, suc, ◌^◌, ◌≤◌, ◌<◌, true, arith, inl, inr}
-use Rattle.std.proofs.lemmas.Bool.{and_parts, cases_Bool, false≢true, not-true, or_left}
-use Rattle.exec_machine.specs.{declared.{config.Configuration.Configuration, step.Action.Action}, Callers.is_enabled, Progress.{Plan, is_quiet_step, quiet_bound}, Run.Follows, Tests.is_open, World.{seat_of}}
-use Rattle.exec_machine.specs.declared.step.Action.TheVariants as action
+use Rattle.std.proofs.{Common.{◌≡◌, ℕ, suc, ◌^◌, ◌≤◌, ◌<◌, true, arith, inl, inr}, lemmas.Bool.{and_parts, cases_Bool, false≢true, not-true, or_left}}
+use Rattle.exec_machine.specs.{declared.{config.Configuration.Configuration, step.Action.{Action, Action as action}}, Callers.is_enabled, Progress.{Plan, is_quiet_step, quiet_bound}, Run.Follows, Tests.is_open, World.seat_of}
 use Rattle.exec_moves.specs.Plays.{Playing, by_step, first_playing}
-use Rattle.exec_rest.specs.{AtRest.{AreBare, IsPlaced}, Posted.{IsPosted}, Rested.{IsRestful}}
+use Rattle.exec_rest.specs.{AtRest.{AreBare, IsPlaced}, Posted.IsPosted, Rested.IsRestful}
 use Rattle.exec_settled.specs.{Given.IsGiven, Settled.IsSettled}
-use Rattle.exec_progress.specs.{Left.left_to, Granted.IsGranted, Paced.IsPaced}
-use Rattle.exec_progress.proofs.{Aimed.{aimed_first, aimed_then}, Bounded.bounded, Narrow.{narrow_first, narrow_then}, Opens.{opens_first, opens_then}, Outputs.{outputs_first, outputs_then}, Pace.{pace_first, pace_then}, Quiet.falls_at, Seeking.{counts_first, counts_then}, Stood.down_by}
+use Rattle.exec_progress.{specs.{Left.left_to, Granted.IsGranted, Paced.IsPaced}, proofs.{Aimed.{aimed_first, aimed_then}, Bounded.bounded, Narrow.{narrow_first, narrow_then}, Opens.{opens_first, opens_then}, Outputs.{outputs_first, outputs_then}, Pace.{pace_first, pace_then}, Quiet.falls_at, Seeking.{counts_first, counts_then}, Stood.down_by}}
 
 pub first_paced : (p : Plan) → p.config.spin.budget ≤ p.config.spin.most → p.config.files ≤ 64 → IsPaced 0 p.config (first_playing p)
 first_paced p spins files = record { pace = pace_first p spins; counts = counts_first p; aimed = aimed_first p; narrow = narrow_first p; outputs = outputs_first p; opens = opens_first p files }

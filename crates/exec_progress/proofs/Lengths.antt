@@ -1,7 +1,6 @@
 -- A quiet line of a worker leaves the bound: there are as many requests and sleepers.
-use Rattle.std.proofs.Common.{◌≡◌, ℕ, true, length, refl, arith}
-use Rattle.std.proofs.lemmas.{Bool.true≢false, List.length-map}
-use Rattle.exec_machine.specs.{declared.{config.Configuration.Configuration, event.Event.Event}, After.{after, common_after}, Choice.{Choice}, Progress.quiet_bound, Closing.{after_turn}, Text.is_quiet, World.{Common, Own as Books, World}}
+use Rattle.std.proofs.{Common.{◌≡◌, ℕ, true, length, refl, arith}, lemmas.{Bool.true≢false, List.length-map}}
+use Rattle.exec_machine.specs.{declared.{config.Configuration.Configuration, event.Event.Event}, After.{after, common_after}, Choice.Choice, Progress.quiet_bound, Closing.after_turn, Text.is_quiet, World.{Common, Own as Books, World}}
 
 record AsMany (s later : Common) : Type 0 where
   pub requests : length later.requests ≡ length s.requests

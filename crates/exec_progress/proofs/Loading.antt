@@ -1,10 +1,9 @@
 -- The loads of the own words, before a service and before the tests.
-use Rattle.std.proofs.Common.{◌≡◌, ℕ, ◌<◌, true, not, List, slice_set, refl, sym, subst, arith}
-use Rattle.std.proofs.lemmas.{List.set-get_or}
+use Rattle.std.proofs.{Common.{◌≡◌, ℕ, ◌<◌, true, not, List, slice_set, refl, sym, subst, arith}, lemmas.List.set-get_or}
 use Rattle.exec_words.specs.{Queue.Queue, declared.word.PureWord.PureWord}
 use Rattle.exec_machine.specs.{declared.{config.Configuration.Configuration, event.Event.TheVariants.Turn}, Choice.Choice.Plain, After.{own_after, common_after}, Tests.is_empty, World.{Common, Own as Books}}
 use Rattle.exec_moves.specs.{declared.place.{Found.Found, InLoads.InLoads, Round.Round, Place.Place}, Callback.is_of_pool, Load.{after_loads, found_also, has_mail}, State.{Desk, Things, no_queue, no_word, queue_of, word_of}}
-use Rattle.exec_progress.{specs.{Going.{FallsAt, seen, stands}}, proofs.Tools.{Now, before, left}}
+use Rattle.exec_progress.{specs.Going.{FallsAt, seen, stands}, proofs.Tools.{Now, before, left}}
 
 module _ (c : Configuration) (i : ℕ) (me : Books) (s : Common) (d : Desk) (x : Things) where
   -- a turn that leads to place q

@@ -1,11 +1,9 @@
 -- The look: a turn begins anew for what is in the global queue, a scan for what can be stolen; and else the worker comes to its wait.
-use Rattle.std.proofs.Common.{◌≡◌, ℕ, suc, ◌+◌, ◌≤◌, ◌<◌, ◌==◌, Bool, true, not, ◌&&◌, ◌||◌, List, [], ◌∷◌, refl, sym, ap, subst, arith, inl, inr}
-use Rattle.std.specs.Prelude.{nat_lt}
-use Rattle.std.proofs.lemmas.{Bool.{and_from, and_parts, eqb-true, eq-eqb, ltb-true, or_cases}, List.set-get_or}
+use Rattle.std.{proofs.{Common.{◌≡◌, ℕ, suc, ◌+◌, ◌≤◌, ◌<◌, ◌==◌, Bool, true, not, ◌&&◌, ◌||◌, List, [], ◌∷◌, refl, sym, ap, subst, arith, inl, inr}, lemmas.{Bool.{and_from, and_parts, eqb-true, eq-eqb, ltb-true, or_cases}, List.set-get_or}}, specs.Prelude.nat_lt}
 use Rattle.exec_words.specs.{declared.head.Head.Head, Head.is_stealable_at, Queue.{head_of, tail_of}}
 use Rattle.exec_machine.specs.{declared.{config.Configuration.Configuration, event.Event.TheVariants.Turn}, Choice.Choice.Plain, Tests.is_empty, World.{Common, Own as Books}}
 use Rattle.exec_moves.specs.{declared.{idling.{AfterWait.AfterWait, InLook.InLook, InScan.InScan}, place.Place.Place}, Callback.is_of_pool, Counts.one_if, Global.{one_count_less, one_count_more}, Look.{look_at_mirror, looks_from, past_own}, State.{Desk, Things, no_queue, queue_of, turns}, Thing.{set_queue, with_global, with_idle}, Wait.waits}
-use Rattle.exec_progress.{specs.{Effort.{second_scan}, Going.{Falls, FallsAt, IsGoing, seen, stands}, Owed.{can_steal, is_stealable}, Ranks.full_ring}, proofs.{Idling.{FallsTo, chosen, counts, desk_to, height, in_look, in_scan, loads}, Passing.{can_at, second_le}, Tools.{afterwards, before, goes_up, taken_up}, Upward.to_wait}}
+use Rattle.exec_progress.{specs.{Effort.second_scan, Going.{Falls, FallsAt, IsGoing, seen, stands}, Owed.{can_steal, is_stealable}, Ranks.full_ring}, proofs.{Idling.{FallsTo, chosen, counts, desk_to, height, in_look, in_scan, loads}, Passing.{can_at, second_le}, Tools.{afterwards, before, goes_up, taken_up}, Upward.to_wait}}
 
 from_on : (i j : ℕ) → j ≤ past_own i j
 from_on = grind arith

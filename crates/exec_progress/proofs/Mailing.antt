@@ -1,7 +1,6 @@
 -- The mailbox: its wake word, a batch, and the messages of that.
-use Rattle.std.proofs.Common.{◌≡◌, ℕ, ◌<◌, Bool, true, false, not, List, [], ◌∷◌, length, refl, ap, arith, inl, inr}
-use Rattle.std.proofs.lemmas.{Bool.{false≢true, eq-eqb}, List.get_or-set_same}
-use Rattle.exec_words.specs.{declared.word.PureWord.PureWord}
+use Rattle.std.proofs.{Common.{◌≡◌, ℕ, ◌<◌, Bool, true, false, not, List, [], ◌∷◌, length, refl, ap, arith, inl, inr}, lemmas.{Bool.{false≢true, eq-eqb}, List.get_or-set_same}}
+use Rattle.exec_words.specs.declared.word.PureWord.{PureWord}
 use Rattle.exec_machine.specs.{declared.{config.Configuration.Configuration, state.MailMessage.MailMessage}, World.{Common, Own as Books}}
 use Rattle.exec_moves.specs.{declared.place.{InMail.InMail, Place.Place}, Counts.one_if, Load.has_mail, Mail.{apply, load_mail_word, take_mail, to_callbacks}, State.{Desk, Moved, Things, inbox_of, no_word, turns as turning, word_of}, Thing.{aside, set_word, with_inbox, with_word}}
 use Rattle.exec_rest.specs.Posted.{IsNumbered}

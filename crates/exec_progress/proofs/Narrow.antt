@@ -1,33 +1,11 @@
 -- No run queue has more than fits into it, nor gave out more than 256 values in each step.
-use Rattle.std.proofs.Common.{◌≡◌, ℕ, zero, suc, ◌≤◌, ◌+◌, ◌*◌, Bool, true, false, List, [], ◌∷◌, ◌++◌, length, take, drop, get_or, replicate, Option, Some, None, if◌then◌else◌, refl, arith}
-use Rattle.std.proofs.lemmas.{Bool.{and_parts, cases_Bool, eqb-true}, List.{length-append, length-drop, length-take}}
-use Rattle.exec_words.specs.{declared.head.Head.Head, Global.share_of, Head.{claim_at}, Queue.{Queue, claimed, head_of, overflowed, popped, published, released, restored, room_of, tail_of}}
-use Rattle.exec_machine.specs.{declared.config.{Configuration.Configuration, ScriptWord.ScriptWord}, Progress.Plan, World.{Common, Own as Books, own_of, task_of}, Words.next_word}
-use Rattle.exec_machine.specs.declared.config.ScriptWord.TheVariants as script
-use Rattle.exec_machine.specs.declared.step.Action.{Action}
-use Rattle.exec_machine.specs.declared.step.Action.TheVariants as action
-use Rattle.exec_moves.specs.{declared.{handing.{AfterCallbacks.AfterCallbacks, AfterPop.AfterPop, AfterSend.AfterSend, First.First}, place.{Place.Place, Service.Service}}, Callback.{Item, item_next}, Move.{move_act, move_at, move_item, move_look_at, move_submit, move_wake}, Pick.take_share, Plays.{Playing, by_action, by_step, desk_of, first_playing}, Poll.{Sight, sight_of, sight_of_act}, Pop.{pops, same_head}, Push.in_hand, Search.from_of, Send.{with_newcomer}, State.{Desk, Moved, Own, Things, no_queue, queue_of}, Submit.{Due, due_next}, Thing.{aside, set_queue}}
-use Rattle.exec_moves.specs.declared.handing.AfterSend.TheVariants as send
-use Rattle.exec_moves.specs.declared.handing.InGlobal.TheVariants as global
-use Rattle.exec_moves.specs.declared.handing.InKick.TheVariants as kick
-use Rattle.exec_moves.specs.declared.handing.InPop.TheVariants as pop
-use Rattle.exec_moves.specs.declared.handing.InPush.TheVariants as push
-use Rattle.exec_moves.specs.declared.handing.InSignal.TheVariants as signals
-use Rattle.exec_moves.specs.declared.idling.InLook.TheVariants as look
-use Rattle.exec_moves.specs.declared.idling.InRingWait.TheVariants as ring
-use Rattle.exec_moves.specs.declared.idling.InScan.TheVariants as scan
-use Rattle.exec_moves.specs.declared.idling.InSearch.TheVariants as search
-use Rattle.exec_moves.specs.declared.idling.InWordWait.TheVariants as word
-use Rattle.exec_moves.specs.declared.place.InPick.TheVariants as pick
-use Rattle.exec_moves.specs.declared.place.InPoll.TheVariants as poll
-use Rattle.exec_moves.specs.declared.place.InCallbacks.TheVariants as callback
-use Rattle.exec_moves.specs.declared.place.InLoads.TheVariants as load
-use Rattle.exec_moves.specs.declared.place.InService.TheVariants as step
-use Rattle.exec_moves.specs.declared.place.InMail.TheVariants as mail
-use Rattle.exec_moves.specs.declared.place.InClosing.TheVariants as closing
-use Rattle.exec_moves.specs.declared.place.Place.TheVariants as at
+use Rattle.std.proofs.{Common.{◌≡◌, ℕ, zero, suc, ◌≤◌, ◌+◌, ◌*◌, Bool, true, false, List, [], ◌∷◌, ◌++◌, length, take, drop, get_or, replicate, Option, Some, None, if◌then◌else◌, refl, arith}, lemmas.{Bool.{and_parts, cases_Bool, eqb-true}, List.{length-append, length-drop, length-take}}}
+use Rattle.exec_words.specs.{declared.head.Head.Head, Global.share_of, Head.claim_at, Queue.{Queue, claimed, head_of, overflowed, popped, published, released, restored, room_of, tail_of}}
+use Rattle.exec_machine.specs.{declared.{config.{Configuration.Configuration, ScriptWord.{ScriptWord, ScriptWord as script}}, step.Action.{Action, Action as action}}, Progress.Plan, World.{Common, Own as Books, own_of, task_of}, Words.next_word}
+use Rattle.exec_moves.specs.{declared.{handing.{AfterCallbacks.AfterCallbacks, AfterPop.AfterPop, AfterSend.{AfterSend, AfterSend as send}, First.First, InKick.InKick as kick, InPop.InPop as pop, InPush.InPush as push, InSignal.InSignal as signals}, place.{Place.{Place, Place as at}, Service.Service, InPick.InPick as pick, InPoll.InPoll as poll, InCallbacks.InCallbacks as callback, InLoads.InLoads as load, InService.InService as step, InMail.InMail as mail, InClosing.InClosing as closing}, idling.{InLook.InLook as look, InRingWait.InRingWait as ring, InScan.InScan as scan, InSearch.InSearch as search, InWordWait.InWordWait as word}}, Callback.{Item, item_next}, Move.{move_act, move_at, move_item, move_look_at, move_submit, move_wake}, Pick.take_share, Plays.{Playing, by_action, by_step, desk_of, first_playing}, Poll.{Sight, sight_of, sight_of_act}, Pop.{pops, same_head}, Push.in_hand, Search.from_of, Send.with_newcomer, State.{Desk, Moved, Own, Things, no_queue, queue_of}, Submit.{Due, due_next}, Thing.{aside, set_queue}}
 use Rattle.exec_rest.proofs.BareMoves.{call_kept, put_in, wake_kept}
 use Rattle.exec_progress.specs.{Going.{KnowsAside, KnowsTail}, Granted.{IsGranted, KnowsRoom}, Paced.AreNarrow}
+use Rattle.exec_moves.specs.declared.handing.InGlobal.TheVariants as global
 
 -- OF ONE RUN QUEUE, after n steps
 

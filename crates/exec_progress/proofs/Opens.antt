@@ -1,8 +1,7 @@
 -- There are as many opens as in the first state: no step makes one or takes one away.
-use Rattle.std.proofs.Common.{◌≡◌, ◌≤◌, length, arith}
-use Rattle.std.proofs.lemmas.{Bool.cases_Bool, List.length-replicate}
-use Rattle.exec_machine.specs.{declared.{config.Configuration.Configuration, event.Event.Event, step.Action.Action}, Callers.{common_by}, Choice.Choice, Progress.Plan, World.{Common, no_open}}
-use Rattle.exec_moves.specs.{Plays.{Playing, by_action, by_step, first_playing}}
+use Rattle.std.proofs.{Common.{◌≡◌, ◌≤◌, length, arith}, lemmas.{Bool.cases_Bool, List.length-replicate}}
+use Rattle.exec_machine.specs.{declared.{config.Configuration.Configuration, event.Event.Event, step.Action.Action}, Callers.common_by, Choice.Choice, Progress.Plan, World.{Common, no_open}}
+use Rattle.exec_moves.specs.Plays.{Playing, by_action, by_step, first_playing}
 use Rattle.exec_settled.proofs.PermittedEvents.{leaves}
 
 pub opens_first : (p : Plan) → p.config.files ≤ 64 → length (first_playing p).world.common.opens ≤ 64

@@ -1,39 +1,14 @@
 -- No move makes more of outputs and slots of requests together, but one that makes a request: that takes one slot.
-use Rattle.std.proofs.Common.{◌≡◌, ℕ, ◌+◌, ◌-◌, ◌≤◌, ◌⊎◌, Bool, true, false, if◌then◌else◌, List, [], ◌∷◌, length, nat_lt, nat_le, Option, Some, None, refl, sym, ◌∙◌, arith, le_refl, le_trans, inl, inr}
-use Rattle.std.proofs.lemmas.Bool.{false≢true, and_parts, eqb-true}
-use Rattle.std.specs.Prelude.{slice_get, slice_index_or}
+use Rattle.std.{proofs.{Common.{◌≡◌, ℕ, ◌+◌, ◌-◌, ◌≤◌, ◌⊎◌, Bool, true, false, if◌then◌else◌, List, [], ◌∷◌, length, nat_lt, nat_le, Option, Some, None, refl, sym, ◌∙◌, arith, le_refl, le_trans, inl, inr}, lemmas.Bool.{false≢true, and_parts, eqb-true}}, specs.Prelude.{slice_get, slice_index_or}}
 use Rattle.exec_base.specs.declared.error.Error.TheVariants.{Timeout}
-use Rattle.exec_outcomes.specs.{declared.outcome.Outcome.{Outcome, TheVariants.Failure}, Accounts.{is_durable}}
+use Rattle.exec_outcomes.specs.{declared.outcome.Outcome.{Outcome, TheVariants.Failure}, Accounts.is_durable}
 use Rattle.exec_task.specs.declared.drain.Drain.{Drain}
 use Rattle.exec_words.specs.{Queue.Queue, declared.word.PureWord.PureWord}
-use Rattle.exec_machine.specs.{declared.{config.{Configuration.Configuration, ScriptWord.ScriptWord}, event.Event.{Event, TheVariants.{Sleep, Turn}}, state.{MailMessage.MailMessage, Operation.Operation, RequestPhase.RequestPhase, Waiting.Waiting}}, Allowed.allowed, Closing.ends_by_clear, Deadlines.{next_due}, Requests.{operation_asked}, Ranges.ring_size, Tests.{AllTrue, is_resolved}, Words.{next_word}, World.{Common, Task, seat_of, request_of, sleeper_of, task_of, Own as Books}}
-use Rattle.exec_machine.specs.declared.config.ScriptWord.TheVariants as script
-use Rattle.exec_machine.specs.declared.event.Event.TheVariants as event
-use Rattle.exec_machine.specs.declared.state.RequestPhase.TheVariants as phase
-use Rattle.exec_machine.specs.declared.state.Waiting.TheVariants as waiting
-use Rattle.exec_moves.specs.declared.handing.{AfterCallbacks.AfterCallbacks, AfterPop.AfterPop, AfterSend.AfterSend, First.First}
-use Rattle.exec_moves.specs.declared.place.{InPoll.InPoll, Place.Place, Reaping.Reaping, Service.Service}
-use Rattle.exec_moves.specs.{Callback.{Item, item_next, woken_by}, Close.{close_sleeper, first_asleep, first_held, orphan, visit}, Load.has_come, Mail.{apply, take_mail}, Move.{move_act, move_at, move_item, move_look_at, move_poll, move_submit, move_wake}, Look.look_at_mirror, Pick.{load_mirror, take_share}, Poll.{Sight, Sight.{Asks, HearsRequest, HearsTimer, Here}, act, act_asked, act_by, after_pend, await, drop_newest, heard_by, requeued_if, resume, sight_of, sight_of_act, sleep_for}, Pop.{pops, shard_count}, Serve.{Ring, end_service, enter, first_to_fire, reap}, State.{Desk, Moved, Things, WakePoll, does, inbox_of, queue_of, wake_poll_of, word_of}, Submit.{after_grant, Due, Due.{Flushes}, due_next, granted_at, stage_next, try_gate, with_poll}, Thing.ring_of, Told.{has_number, without_request, woken_where_awaited}, Slots.numbers_in, Wait.{after_sleep, has_completion, noting_sleep}}
-use Rattle.exec_moves.specs.declared.handing.AfterSend.TheVariants as send
-use Rattle.exec_moves.specs.declared.handing.InGlobal.TheVariants as global
-use Rattle.exec_moves.specs.declared.handing.InKick.TheVariants as kick
-use Rattle.exec_moves.specs.declared.handing.InPop.TheVariants as pop
-use Rattle.exec_moves.specs.declared.handing.InPush.TheVariants as push
-use Rattle.exec_moves.specs.declared.handing.InSignal.TheVariants as signals
-use Rattle.exec_moves.specs.declared.idling.InLook.TheVariants as look
-use Rattle.exec_moves.specs.declared.idling.InRingWait.TheVariants as ring
-use Rattle.exec_moves.specs.declared.idling.InScan.TheVariants as scan
-use Rattle.exec_moves.specs.declared.idling.InSearch.TheVariants as search
-use Rattle.exec_moves.specs.declared.idling.InWordWait.TheVariants as word
-use Rattle.exec_moves.specs.declared.place.InCallbacks.TheVariants as callback
-use Rattle.exec_moves.specs.declared.place.InClosing.TheVariants as closing
-use Rattle.exec_moves.specs.declared.place.InLoads.TheVariants as load
-use Rattle.exec_moves.specs.declared.place.InMail.TheVariants as mail
-use Rattle.exec_moves.specs.declared.place.InPick.TheVariants as pick
-use Rattle.exec_moves.specs.declared.place.InPoll.TheVariants as poll
-use Rattle.exec_moves.specs.declared.place.InService.TheVariants as step
-use Rattle.exec_moves.specs.declared.place.Place.TheVariants as at
+use Rattle.exec_machine.specs.{declared.{config.{Configuration.Configuration, ScriptWord.{ScriptWord, ScriptWord as script}}, event.Event.{Event, TheVariants.{Sleep, Turn}, Event as event}, state.{MailMessage.MailMessage, Operation.Operation, RequestPhase.{RequestPhase, RequestPhase as phase}, Waiting.Waiting}}, Allowed.allowed, Closing.ends_by_clear, Deadlines.next_due, Requests.operation_asked, Ranges.ring_size, Tests.{AllTrue, is_resolved}, Words.next_word, World.{Common, Task, seat_of, request_of, sleeper_of, task_of, Own as Books}}
+use Rattle.exec_moves.specs.{declared.{handing.{AfterCallbacks.AfterCallbacks, AfterPop.AfterPop, AfterSend.{AfterSend, AfterSend as send}, First.First, InKick.InKick as kick, InPop.InPop as pop, InPush.InPush as push, InSignal.InSignal as signals}, place.{InPoll.{InPoll, InPoll as poll}, Place.{Place, Place as at}, Reaping.Reaping, Service.Service, InCallbacks.InCallbacks as callback, InClosing.InClosing as closing, InLoads.InLoads as load, InMail.InMail as mail, InPick.InPick as pick, InService.InService as step}, idling.{InLook.InLook as look, InRingWait.InRingWait as ring, InScan.InScan as scan, InSearch.InSearch as search, InWordWait.InWordWait as word}}, Callback.{Item, item_next, woken_by}, Close.{close_sleeper, first_asleep, first_held, orphan, visit}, Load.has_come, Mail.{apply, take_mail}, Move.{move_act, move_at, move_item, move_look_at, move_poll, move_submit, move_wake}, Look.look_at_mirror, Pick.{load_mirror, take_share}, Poll.{Sight, Sight.{Asks, HearsRequest, HearsTimer, Here}, act, act_asked, act_by, after_pend, await, drop_newest, heard_by, requeued_if, resume, sight_of, sight_of_act, sleep_for}, Pop.{pops, shard_count}, Serve.{Ring, end_service, enter, first_to_fire, reap}, State.{Desk, Moved, Things, WakePoll, does, inbox_of, queue_of, wake_poll_of, word_of}, Submit.{after_grant, Due, Due.Flushes, due_next, granted_at, stage_next, try_gate, with_poll}, Thing.ring_of, Told.{has_number, without_request, woken_where_awaited}, Slots.numbers_in, Wait.{after_sleep, has_completion, noting_sleep}}
 use Rattle.exec_progress.proofs.OutputSlots.{NoMore, all_let_go, dropped, ended, enters, fill, fired, kept_if, told_by, vacates_no_more, woken}
+use Rattle.exec_machine.specs.declared.state.Waiting.TheVariants as waiting
+use Rattle.exec_moves.specs.declared.handing.InGlobal.TheVariants as global
 
 abbrev pub is_admit : Event → Bool
 is_admit (event.Admit r kind outcome) = true

@@ -1,8 +1,6 @@
 -- The outputs that are left beside the slots of requests: what is told makes no more of both together.
-use Rattle.std.proofs.Common.{◌≡◌, ℕ, zero, suc, ◌+◌, ◌≤◌, ◌==◌, ◌&&◌, Bool, true, false, not, if◌then◌else◌, List, [], ◌∷◌, ◌++◌, length, set, Option, Some, None, refl, sym, ◌∙◌, arith, le_refl, le_trans}
-use Rattle.std.proofs.lemmas.Bool.{true≢false, false≢true, eq-eqb, eqb-true, or_cases}
-use Rattle.exec_machine.specs.{declared.state.{MailMessage.MailMessage, Request.Request, Sleeper.Sleeper, Waiting.Waiting}, Tests.{is_applied, is_resolved}, World.{Common, Task, request_of, sleeper_of}}
-use Rattle.exec_machine.specs.declared.state.Waiting.TheVariants as waiting
+use Rattle.std.proofs.{Common.{◌≡◌, ℕ, zero, suc, ◌+◌, ◌≤◌, ◌==◌, ◌&&◌, Bool, true, false, not, if◌then◌else◌, List, [], ◌∷◌, ◌++◌, length, set, Option, Some, None, refl, sym, ◌∙◌, arith, le_refl, le_trans}, lemmas.Bool.{true≢false, false≢true, eq-eqb, eqb-true, or_cases}}
+use Rattle.exec_machine.specs.{declared.state.{MailMessage.MailMessage, Request.Request, Sleeper.Sleeper, Waiting.{Waiting, Waiting as waiting}}, Tests.{is_applied, is_resolved}, World.{Common, Task, request_of, sleeper_of}}
 use Rattle.exec_moves.specs.{Mail.told_by_message, Slots.{Slots, entered, is_in_slots, is_some_slot, numbers_in, slot_of, vacated}, State.Desk, Told.{awaits_no_more, has_number, lets_go_all, lets_go_request, lets_go_requests, lets_go_sleep, told_if_ended, told_of_cancel, told_of_drop, told_of_fire, told_of_forward, turned_away, one_output, one_result, without_request, woken_where_awaited}}
 
 -- SLOTS

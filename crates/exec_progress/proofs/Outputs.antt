@@ -1,9 +1,6 @@
 -- Each output that is left is of a request whose slot is free: in the first state, and after each step.
-use Rattle.std.proofs.Common.{◌≡◌, ℕ, zero, suc, ◌+◌, ◌≤◌, true, false, List, [], ◌∷◌, ◌++◌, length, get_or, set, refl, subst, arith, inl, inr}
-use Rattle.std.proofs.lemmas.{Bool.{cases_Bool, false≢true}, List.{length-append, length-set}}
-use Rattle.exec_machine.specs.{declared.{config.Configuration.Configuration, event.Event.Event, state.Request.Request, step.Action.Action}, After.common_after, Callers.{after_going_on, after_spawn_by_call, after_wake_by_call, common_by}, Choice.{Choice, Choice.Plain}, Progress.Plan, Run.Follows, Tests.is_resolved, World.{Common, Own as Books, own_of, request_of}}
-use Rattle.exec_machine.specs.declared.event.Event.TheVariants as event
-use Rattle.exec_machine.specs.declared.step.Action.TheVariants as action
+use Rattle.std.proofs.{Common.{◌≡◌, ℕ, zero, suc, ◌+◌, ◌≤◌, true, false, List, [], ◌∷◌, ◌++◌, length, get_or, set, refl, subst, arith, inl, inr}, lemmas.{Bool.{cases_Bool, false≢true}, List.{length-append, length-set}}}
+use Rattle.exec_machine.specs.{declared.{config.Configuration.Configuration, event.Event.{Event, Event as event}, state.Request.Request, step.Action.{Action, Action as action}}, After.common_after, Callers.{after_going_on, after_spawn_by_call, after_wake_by_call, common_by}, Choice.{Choice, Choice.Plain}, Progress.Plan, Run.Follows, Tests.is_resolved, World.{Common, Own as Books, own_of, request_of}}
 use Rattle.exec_moves.specs.{Move.move, MoveOfCaller.move_of_caller, Plays.{Playing, by_action, by_step, caller_of, desk_of, first_desk, first_desks, first_playing, newcomers}, Slots.numbers_in, State.{Desk, Moved, Things}, Told.has_number}
 use Rattle.exec_books.proofs.Spares.{no_fewer}
 use Rattle.exec_rest.proofs.BareMoves.{put_in}

@@ -1,13 +1,9 @@
 -- A full run queue flows over: its oldest half stands aside for one step, and its newest half goes into the hand.
-use Rattle.std.proofs.Common.{◌≡◌, ℕ, zero, suc, ◌+◌, ◌-◌, ◌==◌, ◌≤◌, ◌<◌, true, not, ◌&&◌, if◌then◌else◌, List, [], ◌∷◌, length, take, drop, set, refl, ap, ◌∙◌, arith}
-use Rattle.std.specs.Prelude.{nat_le}
-use Rattle.std.specs.List.{list_any}
-use Rattle.std.proofs.lemmas.{List.{get_or-set_same}}
+use Rattle.std.{proofs.{Common.{◌≡◌, ℕ, zero, suc, ◌+◌, ◌-◌, ◌==◌, ◌≤◌, ◌<◌, true, not, ◌&&◌, if◌then◌else◌, List, [], ◌∷◌, length, take, drop, set, refl, ap, ◌∙◌, arith}, lemmas.List.get_or-set_same}, specs.{Prelude.nat_le, List.list_any}}
 use Rattle.exec_words.specs.{declared.head.Head.Head, Queue.{Queue, head_of, newest, overflowed, restored}}
-use Rattle.exec_machine.specs.{declared.{config.Configuration.Configuration}, Tests.is_empty, World.{Common, Own as Books}}
+use Rattle.exec_machine.specs.{declared.config.Configuration.Configuration, Tests.is_empty, World.{Common, Own as Books}}
 use Rattle.exec_moves.specs.{declared.{handing.{AfterPush.AfterPush, InGlobal.InGlobal, InPush.InPush}, place.Place.Place}, Callback.is_of_pool, Counts.one_if, Global.has_any, Pop.same_head, State.{Desk, Things, no_queue, queue_of}, Thing.set_queue}
-use Rattle.exec_progress.{specs.{Effort.{is_short_push, stagings_of_push}, Owed.{is_stealable, stage_of_push}, Heights.{append, flow_over, load_push_head, load_set, store_oldest}, Ranks.below_push}, proofs.{Arriving.Reaches, Between.{comes_global, comes_push, leaves_push, set_bounds}, Hopping.{Gets, Kept, hops, of_aside, of_queue}}}
-use Rattle.exec_progress.proofs.Entering.{at_most_one}
+use Rattle.exec_progress.{specs.{Effort.{is_short_push, stagings_of_push}, Owed.{is_stealable, stage_of_push}, Heights.{append, flow_over, load_push_head, load_set, store_oldest}, Ranks.below_push}, proofs.{Arriving.Reaches, Between.{comes_global, comes_push, leaves_push, set_bounds}, Hopping.{Gets, Kept, hops, of_aside, of_queue}, Entering.at_most_one}}
 
 -- what can be stolen with this queue put in could be stolen before, or from it
 stolen_from : (qs : List (Queue ℕ)) (i : ℕ) (w : Queue ℕ) → one_if (list_any is_stealable (set qs i w)) ≤ one_if (list_any is_stealable qs) + one_if (is_stealable w)

@@ -1,15 +1,10 @@
 -- Each worker keeps pace: so it does in the first state, and each step keeps it.
-use Rattle.std.proofs.Common.{◌≡◌, ℕ, zero, suc, ◌≤◌, Bool, true, length, get_or, set, refl, subst, arith}
-use Rattle.std.proofs.lemmas.{Bool.{cases_Bool}, List.get_or_past}
-use Rattle.exec_machine.specs.{declared.{config.{Configuration.Configuration}, event.Event.Event, step.Action.Action}, Progress.Plan, World.{Common, own_of, request_of, task_of}}
-use Rattle.exec_machine.specs.declared.step.Action.TheVariants as action
+use Rattle.std.proofs.{Common.{◌≡◌, ℕ, zero, suc, ◌≤◌, Bool, true, length, get_or, set, refl, subst, arith}, lemmas.{Bool.cases_Bool, List.get_or_past}}
+use Rattle.exec_machine.specs.{declared.{config.Configuration.Configuration, event.Event.Event, step.Action.{Action, Action as action}}, Progress.Plan, World.{Common, own_of, request_of, task_of}}
 use Rattle.exec_moves.specs.{Move.move, Plays.{Playing, by_action, by_step, caller_of, desk_of, first_desk, first_desks, first_playing, newcomers}, State.{Desk, Moved, Things}}
 use Rattle.exec_credit.specs.Spins.{IsWithin}
-use Rattle.exec_rest.specs.Rested.{IsLaidOut, is_in_pool, place_at}
-use Rattle.exec_rest.proofs.{Bare.joined, BareMoves.put_in, CallSeats.{going_seated, spawn_begun, wake_begun}, Frames.pool_after, Others.{beside, is_other}}
-use Rattle.exec_progress.specs.Paced.{HavePace, KeepsPace}
-use Rattle.exec_progress.specs.Going.{KnowsTail}
-use Rattle.exec_progress.proofs.WildMoves.{off_pace, pace_at}
+use Rattle.exec_rest.{specs.Rested.{IsLaidOut, is_in_pool, place_at}, proofs.{Bare.joined, BareMoves.put_in, CallSeats.{going_seated, spawn_begun, wake_begun}, Frames.pool_after, Others.{beside, is_other}}}
+use Rattle.exec_progress.{specs.{Paced.{HavePace, KeepsPace}, Going.KnowsTail}, proofs.WildMoves.{off_pace, pace_at}}
 
 -- THE FIRST STATE
 

@@ -1,33 +1,12 @@
 -- Each move but the wild ones leads to a calm place, and leaves the spinner as it is.
-use Rattle.std.proofs.Common.{◌≡◌, ℕ, Bool, true, false, ◌+◌, ◌-◌, ◌*◌, ◌==◌, ◌&&◌, ◌||◌, List, [], ◌∷◌, length, Option, Some, None, refl, arith}
-use Rattle.std.specs.Prelude.{drop, nat_le, nat_lt, not, slice_get, slice_index_or}
+use Rattle.std.{proofs.{Common.{◌≡◌, ℕ, Bool, true, false, ◌+◌, ◌-◌, ◌*◌, ◌==◌, ◌&&◌, ◌||◌, List, [], ◌∷◌, length, Option, Some, None, refl, arith}, lemmas.Bool.true≢false}, specs.Prelude.{drop, nat_le, nat_lt, not, slice_get, slice_index_or}}
 use Rattle.exec_words.specs.{Generator.stirred, Head.is_stealable_at, Idle.is_in, Queue.{head_of, room_of, tail_of}}
 use Rattle.exec_task.specs.declared.drain.Drain.{Drain}
-use Rattle.exec_machine.specs.{declared.{config.{Configuration.Configuration}}, Deadlines.next_due, Ranges.ring_size, Tests.{is_applied}, World.{Common, Own as Books, Task, request_of, sleeper_of, task_of}}
-use Rattle.exec_moves.specs.declared.idling.{InLook.InLook, InRingWait.InRingWait, InScan.InScan, InSearch.InSearch, InWordWait.InWordWait, Stay.Stay}
-use Rattle.exec_moves.specs.declared.place.{InClosing.InClosing, InLoads.InLoads, InMail.InMail, InService.InService, Place.Place, Reaping.Reaping, Round.Round, Service.Service}
-use Rattle.exec_moves.specs.{Callback.{is_full, is_of_pool}, Claim.claimed, Close.{close_sleeper, first_asleep, first_held, orphan, visit}, Load.{has_come, has_submissions, is_ready as has_ready}, Look.{look_at_mirror, searching_if}, Move.{move_at, move_closing, move_loads, move_look, move_mail, move_ring_wait, move_scan, move_search, move_service, move_submit, move_word_wait}, Pop.{shard_count}, Search.{begun_scan, from_of, half}, Send.first_letter, Serve.{Ring, end_service, first_to_fire, reap}, State.{Desk, Moved, Things, queue_of}, Submit.{Due, due_next}, Thing.ring_of}
-use Rattle.exec_moves.specs.declared.handing.AfterCancels.TheVariants as cancels
-use Rattle.exec_moves.specs.declared.handing.AfterSend.TheVariants as send
-use Rattle.exec_moves.specs.declared.idling.AfterWait.TheVariants as later
-use Rattle.exec_moves.specs.declared.idling.InLook.TheVariants as look
-use Rattle.exec_moves.specs.declared.idling.InRingWait.TheVariants as ring
-use Rattle.exec_moves.specs.declared.idling.InScan.TheVariants as scan
-use Rattle.exec_moves.specs.declared.idling.InSearch.TheVariants as search
-use Rattle.exec_moves.specs.declared.idling.InWordWait.TheVariants as word
-use Rattle.exec_moves.specs.declared.place.InClosing.TheVariants as closing
-use Rattle.exec_moves.specs.declared.place.InService.TheVariants as step
-use Rattle.exec_moves.specs.declared.place.Place.TheVariants as at
-use Rattle.std.proofs.lemmas.Bool.{true≢false}
-use Rattle.exec_moves.specs.{Serve.{others_after_reap, back_from_reap}}
-use Rattle.exec_progress.specs.{Going.{has_called_back, loads_queues}, Owed.quiet_items}
-use Rattle.exec_progress.proofs.PaceParts.{is_wild, Calm, claiming, fair_if, headed, looking, passed_on, permitted, reaped, returned, scanned, searching, served, tailed, waited, waiting_on, withdrawing, withdrawn, calm_there}
-use Rattle.exec_machine.specs.{Closing.ends_by_clear}
-use Rattle.exec_moves.specs.{Close.told_of_clear}
-use Rattle.exec_moves.specs.declared.place.AfterPermit.TheVariants as permit
-use Rattle.exec_progress.proofs.PaceSpins.{all_same, ended_same, enter_at, enter_same, fire_same, poll_same, same_if}
-use Rattle.exec_progress.proofs.PacePolls.{Fine, desk_if, in_callbacks, in_global, in_kick, in_pick, in_poll, in_pop, in_push, in_signal, move_if, picking_one}
+use Rattle.exec_machine.specs.{declared.config.Configuration.Configuration, Deadlines.next_due, Ranges.ring_size, Tests.is_applied, World.{Common, Own as Books, Task, request_of, sleeper_of, task_of}, Closing.ends_by_clear}
+use Rattle.exec_moves.specs.{declared.{idling.{InLook.{InLook, InLook as look}, InRingWait.{InRingWait, InRingWait as ring}, InScan.{InScan, InScan as scan}, InSearch.{InSearch, InSearch as search}, InWordWait.{InWordWait, InWordWait as word}, Stay.Stay}, place.{InClosing.{InClosing, InClosing as closing}, InLoads.InLoads, InMail.InMail, InService.{InService, InService as step}, Place.{Place, Place as at}, Reaping.Reaping, Round.Round, Service.Service, AfterPermit.AfterPermit as permit}, handing.{AfterCancels.AfterCancels as cancels, AfterSend.AfterSend as send}}, Callback.{is_full, is_of_pool}, Claim.claimed, Close.{close_sleeper, first_asleep, first_held, orphan, visit, told_of_clear}, Load.{has_come, has_submissions, is_ready as has_ready}, Look.{look_at_mirror, searching_if}, Move.{move_at, move_closing, move_loads, move_look, move_mail, move_ring_wait, move_scan, move_search, move_service, move_submit, move_word_wait}, Pop.shard_count, Search.{begun_scan, from_of, half}, Send.first_letter, Serve.{Ring, end_service, first_to_fire, reap, others_after_reap, back_from_reap}, State.{Desk, Moved, Things, queue_of}, Submit.{Due, due_next}, Thing.ring_of}
+use Rattle.exec_progress.{specs.{Going.{has_called_back, loads_queues}, Owed.quiet_items}, proofs.{PaceParts.{is_wild, Calm, claiming, fair_if, headed, looking, passed_on, permitted, reaped, returned, scanned, searching, served, tailed, waited, waiting_on, withdrawing, withdrawn, calm_there}, PaceSpins.{all_same, ended_same, enter_at, enter_same, fire_same, poll_same, same_if}, PacePolls.{Fine, desk_if, in_callbacks, in_global, in_kick, in_pick, in_poll, in_pop, in_push, in_signal, move_if, picking_one}}}
 use Rattle.exec_rest.proofs.Continuing.{light_leaves_for_turn, light_tells_from, light_cancels_left, light_after_posting, light_after_close, light_after_letting_go}
+use Rattle.exec_moves.specs.declared.idling.AfterWait.TheVariants as later
 
 module _ (c : Configuration) (i : ℕ) (me : Books) (s : Common) (d : Desk) (x : Things) where
   abbrev n : ℕ

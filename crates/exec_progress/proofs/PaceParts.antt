@@ -1,36 +1,11 @@
 -- Calm places, and that the parts lead to such.
-use Rattle.std.proofs.Common.{◌≡◌, ℕ, Bool, true, false, ◌-◌, ◌==◌, Option, Some, None, if◌then◌else◌, arith}
-use Rattle.std.specs.Prelude.{nat_le, nat_lt, not}
-use Rattle.exec_words.specs.declared.head.{Fit.Fit, Head.Head}
-use Rattle.exec_machine.specs.{declared.{config.Configuration.Configuration, state.{Waiting.Waiting}}, Ranges.ring_size, World.{Common, Own as Books}}
-use Rattle.exec_machine.specs.declared.state.Waiting.TheVariants as waiting
-use Rattle.exec_moves.specs.declared.handing.{AfterCallbacks.AfterCallbacks, AfterClaim.AfterClaim, AfterKick.AfterKick, AfterLeave.AfterLeave, AfterPush.AfterPush, AfterSignal.AfterSignal}
-use Rattle.exec_moves.specs.declared.idling.{AfterWait.AfterWait, Scan.Scan, Stay.Stay}
-use Rattle.exec_moves.specs.declared.place.{AfterService.AfterService, Place.Place}
-use Rattle.exec_moves.specs.{Callback.{has_callbacks, is_of_pool, next_callback, to_queue}, Claim.{Claimed, after_claim}, Look.{after_withdrawal, looks_from, past_own}, Parts.{after_kick, after_leave, after_push, after_return, after_signal, has_others}, Poll.{after_begin}, Push.after_fit, Search.{judge_head, judge_tail, looks_at, past, past_own_queue}, Send.{after_spawn}, Serve.after_service, State.{Desk}, Wait.{after_wait, first_search, waits, withdraws}}
-use Rattle.exec_moves.specs.declared.handing.AfterClaim.TheVariants as claim
-use Rattle.exec_moves.specs.declared.handing.AfterKick.TheVariants as kick
-use Rattle.exec_moves.specs.declared.handing.AfterPush.TheVariants as push
-use Rattle.exec_moves.specs.declared.handing.AfterSignal.TheVariants as signal
-use Rattle.exec_moves.specs.declared.idling.AfterWait.TheVariants as later
-use Rattle.exec_moves.specs.declared.idling.Stay.TheVariants as stay
-use Rattle.exec_moves.specs.declared.place.Place.TheVariants as at
-use Rattle.exec_moves.specs.declared.place.Round.TheVariants as round
+use Rattle.std.{proofs.Common.{◌≡◌, ℕ, Bool, true, false, ◌-◌, ◌==◌, Option, Some, None, if◌then◌else◌, arith}, specs.Prelude.{nat_le, nat_lt, not}}
+use Rattle.exec_words.specs.declared.{head.{Fit.Fit, Head.Head}, word.WaitTarget.WaitTarget as target}
+use Rattle.exec_machine.specs.{declared.{config.Configuration.Configuration, state.{Waiting.{Waiting, Waiting as waiting}, Request.Request}}, Ranges.ring_size, World.{Common, Own as Books}}
+use Rattle.exec_moves.specs.{declared.{handing.{AfterCallbacks.AfterCallbacks, AfterClaim.{AfterClaim, AfterClaim as claim}, AfterKick.{AfterKick, AfterKick as kick}, AfterLeave.AfterLeave, AfterPush.{AfterPush, AfterPush as push}, AfterSignal.{AfterSignal, AfterSignal as signal}, InSignal.InSignal as signals}, idling.{AfterWait.{AfterWait, AfterWait as later}, Scan.Scan, Stay.{Stay, Stay as stay}, InLook.InLook as look, InRingWait.InRingWait as ring, InScan.InScan as scan, InWordWait.InWordWait as word}, place.{AfterService.AfterService, Place.{Place, Place as at}, Round.Round as round, AfterPermit.AfterPermit, InService.{InService, InService as step}, Service.Service, InLoads.InLoads as load}}, Callback.{has_callbacks, is_of_pool, next_callback, to_queue}, Claim.{Claimed, after_claim}, Look.{after_withdrawal, looks_from, past_own}, Parts.{after_kick, after_leave, after_push, after_return, after_signal, has_others}, Poll.after_begin, Push.after_fit, Search.{judge_head, judge_tail, looks_at, past, past_own_queue}, Send.after_spawn, Serve.{after_service, after_passing, after_permit, after_reap}, State.Desk, Wait.{after_wait, first_search, waits, withdraws}}
 use Rattle.exec_outcomes.specs.{declared.outcome.Outcome.Outcome, Accounts.is_durable}
-use Rattle.exec_machine.specs.{declared.state.Request.Request}
-use Rattle.exec_words.specs.declared.word.WaitTarget.TheVariants as target
-use Rattle.exec_moves.specs.declared.place.{AfterPermit.AfterPermit, InService.InService, Service.Service}
-use Rattle.exec_moves.specs.Serve.{after_passing, after_permit, after_reap}
-use Rattle.exec_moves.specs.declared.handing.InSignal.TheVariants as signals
-use Rattle.exec_moves.specs.declared.idling.InLook.TheVariants as look
-use Rattle.exec_moves.specs.declared.idling.InRingWait.TheVariants as ring
-use Rattle.exec_moves.specs.declared.idling.InScan.TheVariants as scan
-use Rattle.exec_moves.specs.declared.idling.InWordWait.TheVariants as word
-use Rattle.exec_moves.specs.declared.place.InLoads.TheVariants as load
-use Rattle.exec_moves.specs.declared.place.InService.TheVariants as step
-use Rattle.exec_rest.specs.Places.{waits_on}
+use Rattle.exec_rest.{specs.Places.waits_on, proofs.Continuing.{is_light, light_next_pick, light_after_send}}
 use Rattle.exec_progress.specs.Going.{raises_itself}
-use Rattle.exec_rest.proofs.Continuing.{is_light, light_next_pick, light_after_send}
 
 -- CALM PLACES: nothing is to be known there beside what keeps from move to move. Queues are loaded by a worker of the pool alone, a spin begins with
 -- the budget, and nothing quiet is left of the callbacks before the test for work.

@@ -1,35 +1,13 @@
 -- Picks, pushes, counts, polls and callbacks lead to calm places, and leave the spinner as it is.
-use Rattle.std.proofs.Common.{◌≡◌, ℕ, Bool, true, false, ◌-◌, ◌==◌, ◌&&◌, List, [], ◌∷◌, Option, Some, None, refl, arith}
-use Rattle.std.specs.Prelude.{drop, nat_le}
-use Rattle.exec_outcomes.specs.{Accounts.is_durable}
-use Rattle.exec_words.specs.{Queue.{Queue, fit_of, head_of, tail_of}}
-use Rattle.exec_machine.specs.{declared.{config.{Configuration.Configuration, ScriptWord.ScriptWord}, state.{Operation.Operation, RequestPhase.RequestPhase, Waiting.Waiting}}, Ranges.ring_size, Requests.operation_asked, Tasks.begun_waiting, Tests.{is_done, is_idle, is_ready}, World.{Common, Own as Books, Task, request_of, sleeper_of, task_of}, Words.{newest_held, next_word, sleep_asked}}
-use Rattle.exec_machine.specs.declared.config.ScriptWord.TheVariants as script
-use Rattle.exec_machine.specs.declared.state.RequestPhase.TheVariants as phase
-use Rattle.exec_machine.specs.declared.state.Waiting.TheVariants as waiting
-use Rattle.exec_moves.specs.declared.handing.{AfterCallbacks.AfterCallbacks, AfterKick.AfterKick, AfterPop.AfterPop, AfterPush.AfterPush, AfterSend.AfterSend, AfterSignal.AfterSignal, Heard.Heard, InGlobal.InGlobal, InKick.InKick, InPop.InPop, InPush.InPush, InSignal.InSignal}
-use Rattle.exec_moves.specs.declared.place.{InCallbacks.InCallbacks, InPick.InPick, InPoll.InPoll}
-use Rattle.exec_moves.specs.{Callback.{Item, Item.{Answers, Completes, LetsGo, Nothing, Releases, Wakes}, flagged_by, has_callbacks, is_of_pool, item_next, tells_waiter, woken_by}, Global.has_any, Move.{move_act, move_callbacks, move_global, move_item, move_kick, move_look_at, move_pick, move_poll, move_pop, move_push, move_signal, move_wake}, Parts.has_others, Poll.{Sight, Sight.{Asks, HearsRequest, HearsTimer, Here}, act, act_asked, act_by, after_pend, await, drop_newest, heard_by, requeued_if, resume, sight_of, sight_of_act, sleep_for}, Pop.{load_pop_head, pops, same_head}, State.{Desk, Moved, Things, queue_of}, Told.{has_number, lets_go_all}}
-use Rattle.exec_moves.specs.declared.handing.AfterCancels.TheVariants as cancels
-use Rattle.exec_moves.specs.declared.handing.AfterPop.TheVariants as pop
-use Rattle.exec_moves.specs.declared.handing.AfterPush.TheVariants as push
-use Rattle.exec_moves.specs.declared.handing.AfterSend.TheVariants as send
-use Rattle.exec_moves.specs.declared.handing.Heard.TheVariants as heard
-use Rattle.exec_moves.specs.declared.handing.InGlobal.TheVariants as global
-use Rattle.exec_moves.specs.declared.handing.InKick.TheVariants as kicks
-use Rattle.exec_moves.specs.declared.handing.InPush.TheVariants as pushes
-use Rattle.exec_moves.specs.declared.handing.InSignal.TheVariants as signals
-use Rattle.exec_moves.specs.declared.place.InCallbacks.TheVariants as callback
-use Rattle.exec_moves.specs.declared.place.InPoll.TheVariants as poll
-use Rattle.exec_moves.specs.declared.place.Place.TheVariants as at
-use Rattle.std.proofs.Common.{if◌then◌else◌}
-use Rattle.std.proofs.lemmas.Bool.{true≢false}
-use Rattle.exec_progress.proofs.PaceParts.{is_wild, Calm, begun, calling, fair_if, fitted, kicked, pushed, queued, signalled, spawned, calm_there}
-use Rattle.exec_moves.specs.{Parts.polls, Pop.after_pop}
+use Rattle.std.{proofs.{Common.{◌≡◌, ℕ, Bool, true, false, ◌-◌, ◌==◌, ◌&&◌, List, [], ◌∷◌, Option, Some, None, refl, arith, if◌then◌else◌}, lemmas.Bool.true≢false}, specs.Prelude.{drop, nat_le}}
+use Rattle.exec_outcomes.specs.Accounts.{is_durable}
+use Rattle.exec_words.specs.Queue.{Queue, fit_of, head_of, tail_of}
+use Rattle.exec_machine.specs.{declared.{config.{Configuration.Configuration, ScriptWord.{ScriptWord, ScriptWord as script}}, state.{Operation.Operation, RequestPhase.{RequestPhase, RequestPhase as phase}, Waiting.Waiting}}, Ranges.ring_size, Requests.operation_asked, Tasks.begun_waiting, Tests.{is_done, is_idle, is_ready}, World.{Common, Own as Books, Task, request_of, sleeper_of, task_of}, Words.{newest_held, next_word, sleep_asked}}
+use Rattle.exec_moves.specs.{declared.{handing.{AfterCallbacks.AfterCallbacks, AfterKick.AfterKick, AfterPop.{AfterPop, AfterPop as pop}, AfterPush.{AfterPush, AfterPush as push}, AfterSend.{AfterSend, AfterSend as send}, AfterSignal.AfterSignal, Heard.{Heard, Heard as heard}, InGlobal.{InGlobal, InGlobal as global}, InKick.{InKick, InKick as kicks}, InPop.InPop, InPush.{InPush, InPush as pushes}, InSignal.{InSignal, InSignal as signals}, AfterCancels.AfterCancels as cancels}, place.{InCallbacks.{InCallbacks, InCallbacks as callback}, InPick.InPick, InPoll.{InPoll, InPoll as poll}, Place.Place as at}}, Callback.{Item, Item.{Answers, Completes, LetsGo, Nothing, Releases, Wakes}, flagged_by, has_callbacks, is_of_pool, item_next, tells_waiter, woken_by}, Global.has_any, Move.{move_act, move_callbacks, move_global, move_item, move_kick, move_look_at, move_pick, move_poll, move_pop, move_push, move_signal, move_wake}, Parts.{has_others, polls}, Poll.{Sight, Sight.{Asks, HearsRequest, HearsTimer, Here}, act, act_asked, act_by, after_pend, await, drop_newest, heard_by, requeued_if, resume, sight_of, sight_of_act, sleep_for}, Pop.{load_pop_head, pops, same_head, after_pop}, State.{Desk, Moved, Things, queue_of}, Told.{has_number, lets_go_all}}
+use Rattle.exec_progress.{proofs.{PaceParts.{is_wild, Calm, begun, calling, fair_if, fitted, kicked, pushed, queued, signalled, spawned, calm_there}, PaceSpins.{all_same, drop_same}}, specs.Owed.quiet_items}
 use Rattle.exec_settled.proofs.SettledPlaces.{told_by}
-use Rattle.exec_progress.specs.Owed.{quiet_items}
-use Rattle.exec_progress.proofs.PaceSpins.{all_same, drop_same}
 use Rattle.exec_rest.proofs.Continuing.{light_first_pop, light_polls, light_next_pick, light_after_poll, light_cancels_left, light_after_posting, light_after_end, light_after_empty_pop, light_judge_pop}
+use Rattle.exec_machine.specs.declared.state.Waiting.TheVariants as waiting
 
 -- once no callback is left nothing quiet is
 pub none_left : (me : Books) (d : Desk) → has_callbacks me d ≡ false → (quiet_items d == 0) ≡ true

@@ -1,15 +1,8 @@
 -- What a worker is told as requests and sleepers end leaves its spinner as it is, and so does an enter.
-use Rattle.std.proofs.Common.{◌≡◌, ℕ, Bool, true, false, ◌==◌, ◌&&◌, ◌||◌, List, [], ◌∷◌, Option, refl, arith}
-use Rattle.std.specs.Prelude.{not}
-use Rattle.exec_outcomes.specs.{declared.outcome.Outcome.Outcome}
-use Rattle.exec_machine.specs.{declared.{state.{Waiting.Waiting}}, Tests.{is_applied}, World.{Common, Own as Books, Task, request_of, sleeper_of}}
-use Rattle.exec_machine.specs.declared.state.Waiting.TheVariants as waiting
-use Rattle.exec_moves.specs.{Callback.{is_full}, Serve.{Ring}, State.{Desk}, Told.{lets_go_all}}
-use Rattle.std.proofs.Common.{◌∙◌, if◌then◌else◌}
-use Rattle.exec_machine.specs.declared.state.{Request.Request, Sleeper.Sleeper}
-use Rattle.exec_moves.specs.{Serve.{enter}, Submit.{with_poll}, Told.{told_if_ended, told_of_drop, told_of_cancel, told_of_fire, lets_go_requests, lets_go_request, lets_go_sleep, turned_away}}
-use Rattle.exec_machine.specs.{Requests.ends_by_drop, Tests.is_resolved}
-use Rattle.exec_moves.specs.{Slots.is_in_slots}
+use Rattle.std.{proofs.Common.{◌≡◌, ℕ, Bool, true, false, ◌==◌, ◌&&◌, ◌||◌, List, [], ◌∷◌, Option, refl, arith, ◌∙◌, if◌then◌else◌}, specs.Prelude.not}
+use Rattle.exec_outcomes.specs.declared.outcome.Outcome.{Outcome}
+use Rattle.exec_machine.specs.{declared.state.{Waiting.{Waiting, Waiting as waiting}, Request.Request, Sleeper.Sleeper}, Tests.{is_applied, is_resolved}, World.{Common, Own as Books, Task, request_of, sleeper_of}, Requests.ends_by_drop}
+use Rattle.exec_moves.specs.{Callback.is_full, Serve.{Ring, enter}, State.Desk, Told.{lets_go_all, told_if_ended, told_of_drop, told_of_cancel, told_of_fire, lets_go_requests, lets_go_request, lets_go_sleep, turned_away}, Submit.with_poll, Slots.is_in_slots}
 
 abbrev pub Same : Desk → Desk → Type 0
 Same d e = e.spinner ≡ d.spinner

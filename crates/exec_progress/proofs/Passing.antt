@@ -1,13 +1,9 @@
 -- How far a scan has come: it passes no queue from which can be stolen, and comes to each of the pool.
-use Rattle.std.proofs.Common.{◌≡◌, ℕ, ◌+◌, ◌-◌, ◌*◌, ◌%◌, ◌≤◌, ◌<◌, ◌==◌, Bool, true, false, not, ◌&&◌, ◌||◌, [], length, get_or, if◌then◌else◌, refl, sym, ap, subst, ◌∙◌, arith, inl, inr}
-use Rattle.std.specs.Prelude.{nat_le}
-use Rattle.std.specs.List.{range_with_len}
-use Rattle.std.proofs.lemmas.{Bool.{and_parts, and_from, cases_lt, eqb-true, true≢false}, List.{get_or_past, get_or_default}, List.FromFn.{length-range_with_len, get_or-range_with_len}, List.Folds.{Any-from_list_any, list_any_at}, Nat.{mod-mul-add, mod_below}}
+use Rattle.std.{proofs.{Common.{◌≡◌, ℕ, ◌+◌, ◌-◌, ◌*◌, ◌%◌, ◌≤◌, ◌<◌, ◌==◌, Bool, true, false, not, ◌&&◌, ◌||◌, [], length, get_or, if◌then◌else◌, refl, sym, ap, subst, ◌∙◌, arith, inl, inr}, lemmas.{Bool.{and_parts, and_from, cases_lt, eqb-true, true≢false}, List.{get_or_past, get_or_default, FromFn.{length-range_with_len, get_or-range_with_len}, Folds.{Any-from_list_any, list_any_at}}, Nat.{mod-mul-add, mod_below}}}, specs.{Prelude.nat_le, List.range_with_len}}
 use Rattle.exec_words.specs.{declared.head.Head.Head, Queue.{Queue, head_of, tail_of}}
 use Rattle.exec_machine.specs.{declared.config.Configuration.Configuration, World.Common}
 use Rattle.exec_moves.specs.{declared.{idling.{InScan.InScan, Scan.Scan}, place.Place.Place}, Pop.same_head, Search.{begun_scan, from_of, judge_head, looks_at, past, scanning}, State.{Desk, Things, no_queue, queue_of}}
-use Rattle.exec_progress.{specs.{Effort.{comes_to, may_miss, scans_again, second_scan}, Owed.{can_steal, is_stealable}, Heights.{their_head, their_tail}, Ranks.{passing, publish, rank}}, proofs.Idling.{IsIdling, chosen, in_scan}}
-use Rattle.exec_progress.proofs.Popping.{same_again}
+use Rattle.exec_progress.{specs.{Effort.{comes_to, may_miss, scans_again, second_scan}, Owed.{can_steal, is_stealable}, Heights.{their_head, their_tail}, Ranks.{passing, publish, rank}}, proofs.{Idling.{IsIdling, chosen, in_scan}, Popping.same_again}}
 
 -- HEADS
 

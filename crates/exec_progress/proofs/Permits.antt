@@ -1,14 +1,9 @@
 -- A permit that is given up in a service.
-use Rattle.std.proofs.Common.{◌≡◌, ℕ, ◌+◌, ◌≤◌, ◌<◌, ◌==◌, Bool, true, false, not, ◌&&◌, ◌||◌, List, length, get_or, slice_set, if◌then◌else◌, Option, Some, None, refl, sym, ap, ◌∙◌, arith}
-use Rattle.std.specs.Prelude.{nat_lt, is_some, slice_get}
-use Rattle.std.proofs.lemmas.{Bool.{false≢true, true≢false, eqb-true, eq-eqb}, Grind.get_or-set_at, List.get_or-set_other}
+use Rattle.std.{proofs.{Common.{◌≡◌, ℕ, ◌+◌, ◌≤◌, ◌<◌, ◌==◌, Bool, true, false, not, ◌&&◌, ◌||◌, List, length, get_or, slice_set, if◌then◌else◌, Option, Some, None, refl, sym, ap, ◌∙◌, arith}, lemmas.{Bool.{false≢true, true≢false, eqb-true, eq-eqb}, Grind.get_or-set_at, List.get_or-set_other}}, specs.Prelude.{nat_lt, is_some, slice_get}}
 use Rattle.exec_words.specs.{Word.asks_signal, declared.word.PureWord.PureWord}
 use Rattle.exec_machine.specs.{declared.{config.Configuration.Configuration, event.Event.TheVariants.{Rouse, Serve}}, Ranges.ring_size, Tests.is_awake, World.{Common, Own as Books, seat_of}}
-use Rattle.exec_moves.specs.{declared.place.{AfterPermit.AfterPermit, AfterService.AfterService, InService.InService, Place.Place, Service.Service}, Callback.is_full, Claim.{is_ring, latched, raised_if}, Counts.{one_if}, Load.{has_mail, has_submissions}}
-use Rattle.exec_progress.specs.Heights.{after_permit as height_after}
-use Rattle.exec_moves.specs.{Serve.{after_passing, after_permit, left_by_first, worker_of}, State.{Desk, Things, WakePoll, does, gate_of, no_wake_poll, no_word, serves, wake_poll_of, word_of}, Thing.{with_gate, with_wake_poll, with_word}}
-use Rattle.exec_progress.specs.{Effort.{gates_left}, Going.{Falls, FallsAt, seen, stands}, Owed.{calling_back, has_stray, quiet_items, reaping, sampling, signals_itself, signs, signs_ahead, stage_in_service, stage_of_permit, stage_of_service, staging}, Ranks.{below_service, in_service}}
-use Rattle.exec_progress.proofs.{Tools.{Now, before, goes_down, keeps_turns, left}}
+use Rattle.exec_moves.specs.{declared.place.{AfterPermit.AfterPermit, AfterService.AfterService, InService.InService, Place.Place, Service.Service}, Callback.is_full, Claim.{is_ring, latched, raised_if}, Counts.one_if, Load.{has_mail, has_submissions}, Serve.{after_passing, after_permit, left_by_first, worker_of}, State.{Desk, Things, WakePoll, does, gate_of, no_wake_poll, no_word, serves, wake_poll_of, word_of}, Thing.{with_gate, with_wake_poll, with_word}}
+use Rattle.exec_progress.{specs.{Heights.after_permit as height_after, Effort.gates_left, Going.{Falls, FallsAt, seen, stands}, Owed.{calling_back, has_stray, quiet_items, reaping, sampling, signals_itself, signs, signs_ahead, stage_in_service, stage_of_permit, stage_of_service, staging}, Ranks.{below_service, in_service}}, proofs.Tools.{Now, before, goes_down, keeps_turns, left}}
 
 module _ (c : Configuration) (i : ℕ) (me : Books) (s : Common) (d : Desk) (x : Things) where
   -- worker i at this step, with these words, wake polls and gates

@@ -1,13 +1,8 @@
 -- The steps of a poll.
-use Rattle.std.proofs.Common.{◌≡◌, ℕ, ◌-◌, ◌<◌, Bool, true, false, List, [], ◌∷◌, length, get_or, Option, Some, None, slice_get, if◌then◌else◌, refl, sym, subst, ◌∙◌, arith}
-use Rattle.std.proofs.lemmas.Bool.{true≢false}
-use Rattle.std.proofs.lemmas.Option.{slice_get-get_or}
-use Rattle.exec_machine.specs.{declared.{config.{Configuration.Configuration, ScriptWord.ScriptWord}, event.Event.Event, state.{MailMessage.MailMessage, RequestPhase.RequestPhase}}, Choice.{Choice, Choice.{Plain}}, Requests.operation_asked, Tests.{is_empty}, Text.is_quiet, Words.{idle_words, is_idle_word, newest_held, next_word, sleep_asked, words_left}, World.{Common, Own as Books, Task, request_of, task_of}}
-use Rattle.exec_machine.specs.declared.config.ScriptWord.TheVariants as word
-use Rattle.exec_machine.specs.declared.event.Event.TheVariants as event
-use Rattle.exec_machine.specs.declared.state.RequestPhase.TheVariants as phase
-use Rattle.exec_moves.specs.{declared.{handing.{AfterSend.AfterSend}, place.{InPoll.InPoll, Place.Place}}, Move.{move_act, move_look_at, move_wake}, Poll.{Sight, Sight.{Here, Asks, HearsRequest, HearsTimer}, act, act_asked, acts_on, begin_poll, drop_newest, hear_timer, heard_by, pend, sleep_for, stops}, Send.{Mailbox, next_task, posting_of}, State.{Desk, Moved, Things, does}, Thing.{aside, mailbox_of, with_alarms, with_answers}, Told.has_number}
-use Rattle.exec_progress.{specs.{Going.{Falls, FallsAt, seen, stands}, Ranks.{rank}}, proofs.Steps.{Leads, loud}}
+use Rattle.std.proofs.{Common.{◌≡◌, ℕ, ◌-◌, ◌<◌, Bool, true, false, List, [], ◌∷◌, length, get_or, Option, Some, None, slice_get, if◌then◌else◌, refl, sym, subst, ◌∙◌, arith}, lemmas.{Bool.true≢false, Option.slice_get-get_or}}
+use Rattle.exec_machine.specs.{declared.{config.{Configuration.Configuration, ScriptWord.{ScriptWord, ScriptWord as word}}, event.Event.{Event, Event as event}, state.{MailMessage.MailMessage, RequestPhase.{RequestPhase, RequestPhase as phase}}}, Choice.{Choice, Choice.Plain}, Requests.operation_asked, Tests.is_empty, Text.is_quiet, Words.{idle_words, is_idle_word, newest_held, next_word, sleep_asked, words_left}, World.{Common, Own as Books, Task, request_of, task_of}}
+use Rattle.exec_moves.specs.{declared.{handing.AfterSend.AfterSend, place.{InPoll.InPoll, Place.Place}}, Move.{move_act, move_look_at, move_wake}, Poll.{Sight, Sight.{Here, Asks, HearsRequest, HearsTimer}, act, act_asked, acts_on, begin_poll, drop_newest, hear_timer, heard_by, pend, sleep_for, stops}, Send.{Mailbox, next_task, posting_of}, State.{Desk, Moved, Things, does}, Thing.{aside, mailbox_of, with_alarms, with_answers}, Told.has_number}
+use Rattle.exec_progress.{specs.{Going.{Falls, FallsAt, seen, stands}, Ranks.rank}, proofs.Steps.{Leads, loud}}
 
 -- LOUD STEPS, whatever they are about
 

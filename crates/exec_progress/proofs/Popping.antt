@@ -1,11 +1,9 @@
 -- A pop of the own run queue.
-use Rattle.std.proofs.Common.{◌≡◌, ℕ, ◌+◌, ◌-◌, ◌<◌, ◌==◌, Bool, true, false, not, ◌&&◌, List, [], ◌∷◌, length, if◌then◌else◌, refl, sym, ap, subst, arith}
-use Rattle.std.proofs.lemmas.Bool.{true≢false, eq-eqb, eqb-true}
+use Rattle.std.proofs.{Common.{◌≡◌, ℕ, ◌+◌, ◌-◌, ◌<◌, ◌==◌, Bool, true, false, not, ◌&&◌, List, [], ◌∷◌, length, if◌then◌else◌, refl, sym, ap, subst, arith}, lemmas.Bool.{true≢false, eq-eqb, eqb-true}}
 use Rattle.exec_words.specs.{declared.head.Head.Head, Queue.{Queue, head_of, popped, tail_of}}
-use Rattle.exec_machine.specs.{declared.config.Configuration.Configuration, Tests.is_empty, World.{Common, Own as Books}}
-use Rattle.exec_machine.specs.declared.event.Event.TheVariants as event
-use Rattle.exec_moves.specs.{declared.{handing.{AfterPop.AfterPop, First.First, InPop.InPop}, place.{Place.Place}}, Callback.is_of_pool, Counts.one_if, Move.move_pop, Pop.{after_empty_pop, after_pop, judge_pop, load_pop_head, pops as pops_queue, same_head}, State.{Desk, Things, does, queue_of, turns}, Thing.{with_queue}}
-use Rattle.exec_progress.{specs.{Going.{Falls, FallsAt, seen, stands}, Heights.{exchange_pop, leave_search}, Ranks.{is_fresh, rank}}, proofs.{Steps.{Leads, polls_next, same_queue, leads}, Tools.{either}}}
+use Rattle.exec_machine.specs.{declared.{config.Configuration.Configuration, event.Event.Event as event}, Tests.is_empty, World.{Common, Own as Books}}
+use Rattle.exec_moves.specs.{declared.{handing.{AfterPop.AfterPop, First.First, InPop.InPop}, place.Place.Place}, Callback.is_of_pool, Counts.one_if, Move.move_pop, Pop.{after_empty_pop, after_pop, judge_pop, load_pop_head, pops as pops_queue, same_head}, State.{Desk, Things, does, queue_of, turns}, Thing.with_queue}
+use Rattle.exec_progress.{specs.{Going.{Falls, FallsAt, seen, stands}, Heights.{exchange_pop, leave_search}, Ranks.{is_fresh, rank}}, proofs.{Steps.{Leads, polls_next, same_queue, leads}, Tools.either}}
 
 -- a head that was loaded is the queue's
 pub same_again : (h : Head) → same_head h h ≡ true

@@ -1,13 +1,9 @@
 -- A push into the own run queue.
-use Rattle.std.proofs.Common.{◌≡◌, ℕ, suc, ◌+◌, ◌≤◌, ◌<◌, ◌++◌, Bool, true, not, ◌&&◌, if◌then◌else◌, List, length, Option, None, is_some, refl, sym, ap, subst, ◌∙◌, arith}
-use Rattle.std.specs.Prelude.{nat_le}
-use Rattle.std.proofs.lemmas.{List.{append-nil, get_or-set_same, set-get_or}}
+use Rattle.std.{proofs.{Common.{◌≡◌, ℕ, suc, ◌+◌, ◌≤◌, ◌<◌, ◌++◌, Bool, true, not, ◌&&◌, if◌then◌else◌, List, length, Option, None, is_some, refl, sym, ap, subst, ◌∙◌, arith}, lemmas.List.{append-nil, get_or-set_same, set-get_or}}, specs.Prelude.nat_le}
 use Rattle.exec_words.specs.{declared.head.{Fit.Fit, Head.Head}, Queue.{Queue, fit_of, head_of, newest, overflowed, published}}
 use Rattle.exec_machine.specs.{declared.config.Configuration.Configuration, Tests.is_empty, World.{Common, Own as Books}}
 use Rattle.exec_moves.specs.{declared.{handing.{AfterKick.AfterKick, AfterPush.AfterPush, InGlobal.InGlobal, InKick.InKick, InPush.InPush}, place.Place.Place}, Counts.one_if, Global.has_any, Parts.{after_push, has_others}, Pop.same_head, Push.{after_fit, in_hand}, State.{Desk, Moved, Things, no_queue, queue_of, turns}, Thing.{set_queue, with_queue}}
-use Rattle.exec_progress.{specs.{Effort.{is_short_push, stagings_of_push}, Going.{FallsAt, seen, stands}, Owed.{can_steal, stage_of_push}, Heights.{append, flow_over, load_kick_count, load_push_head, load_set, store_value}, Ranks.{below_push, is_fresh}}, proofs.{Arriving.{Reaches, push_to}, Between.{at_if, comes_global, comes_kick, comes_push, leaves_push, set_bounds}, Dropping.{kept_same}, Appending.longer, Hopping.{Gets, Kept, hops}, Overflowing.{flows_over, stores_oldest}, Tools.either}}
-use Rattle.exec_progress.proofs.Entering.{at_most_one}
-use Rattle.exec_progress.proofs.Popping.{same_again}
+use Rattle.exec_progress.{specs.{Effort.{is_short_push, stagings_of_push}, Going.{FallsAt, seen, stands}, Owed.{can_steal, stage_of_push}, Heights.{append, flow_over, load_kick_count, load_push_head, load_set, store_value}, Ranks.{below_push, is_fresh}}, proofs.{Arriving.{Reaches, push_to}, Between.{at_if, comes_global, comes_kick, comes_push, leaves_push, set_bounds}, Dropping.kept_same, Appending.longer, Hopping.{Gets, Kept, hops}, Overflowing.{flows_over, stores_oldest}, Tools.either, Entering.at_most_one, Popping.same_again}}
 
 -- what was in the hand is in the queue
 one_pushed : (pool : Bool) (xs : List ℕ) (hand : Option ℕ) → one_if (pool && not (is_empty (xs ++ in_hand hand))) ≤ one_if (pool && not (is_empty xs)) + one_if (is_some hand)

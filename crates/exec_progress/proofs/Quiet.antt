@@ -2,8 +2,7 @@
 use Rattle.std.proofs.Common.{ℕ}
 use Rattle.exec_machine.specs.{declared.config.Configuration.Configuration, World.{Common, Own as Books}}
 use Rattle.exec_moves.specs.{declared.place.{InService.InService, Place.Place, Service.Service}, State.{Desk, Things}}
-use Rattle.exec_progress.specs.Going.{FallsAt}
-use Rattle.exec_progress.proofs.{Turning.{begins, picks, takes_flag}, Popping.pops, Polling.polls_task, Closing.{closes, sends_cancel}, Calling.calls_back, Loading.loads, Testing.{reads_clock, tests}, Serving.{advances, ends_service, enters_last, reaps, samples}, Permits.{passes_permit, raises_in_service, signals_in_service}, Submitting.submits, Mailing.opens_mail, RingWaits.waits_on_ring, WordWaits.waits_on_word, Withdrawing.withdraws, Searching.searches, Scanning.scans, Looking.looks, Pushing.pushes, Claiming.{claims_worker, signals}, Kicking.{kicks, leaves}, Appending.goes_global}
+use Rattle.exec_progress.{specs.Going.FallsAt, proofs.{Turning.{begins, picks, takes_flag}, Popping.pops, Polling.polls_task, Closing.{closes, sends_cancel}, Calling.calls_back, Loading.loads, Testing.{reads_clock, tests}, Serving.{advances, ends_service, enters_last, reaps, samples}, Permits.{passes_permit, raises_in_service, signals_in_service}, Submitting.submits, Mailing.opens_mail, RingWaits.waits_on_ring, WordWaits.waits_on_word, Withdrawing.withdraws, Searching.searches, Scanning.scans, Looking.looks, Pushing.pushes, Claiming.{claims_worker, signals}, Kicking.{kicks, leaves}, Appending.goes_global}}
 
 module _ (c : Configuration) (i : ℕ) (me : Books) (s : Common) (d : Desk) (x : Things) where
   serves : (p : InService) (v : Service) → FallsAt c i me s d x (Place.Service p v)

@@ -1,10 +1,9 @@
 -- No place stands higher than a turn with what was put off, or the longest spin.
 use Rattle.std.proofs.Common.{ℕ, ◌+◌, ◌*◌, ◌≤◌, Bool, false, arith}
-use Rattle.exec_machine.specs.{declared.config.Configuration.Configuration, Ranges.{largest_spin}}
+use Rattle.exec_machine.specs.{declared.config.Configuration.Configuration, Ranges.largest_spin}
 use Rattle.exec_moves.specs.{declared.{handing.{AfterCallbacks.AfterCallbacks, AfterClaim.AfterClaim, AfterKick.AfterKick, AfterLeave.AfterLeave, AfterPop.AfterPop, AfterPush.AfterPush, AfterSend.AfterSend, AfterSignal.AfterSignal, InGlobal.InGlobal, InKick.InKick, InPop.InPop, InPush.InPush, InSignal.InSignal}, idling.{AfterWait.AfterWait, InLook.InLook, InRingWait.InRingWait, InScan.InScan, InSearch.InSearch, InWordWait.InWordWait}, place.{InPick.InPick, InPoll.InPoll, InCallbacks.InCallbacks, AfterService.AfterService, InLoads.InLoads, InMail.InMail, InService.InService, Round.Round, Place.Place}}, State.{Desk, Things}}
 use Rattle.exec_credit.specs.Spins.{IsShort}
-use Rattle.exec_progress.specs.Heights.{call_back, claim_worker}
-use Rattle.exec_progress.specs.Ranks.{begin_turn, below_claim, below_kick, below_leave, below_push, below_send, below_service, below_signal, disarm, in_callbacks, in_global, in_kick, in_loads, in_look, in_mail, in_pick, in_poll, in_pop, in_push, in_ring_wait, in_scan, in_search, in_service, in_signal, in_withdraw, in_word_wait, next_turn, rank}
+use Rattle.exec_progress.specs.{Heights.{call_back, claim_worker}, Ranks.{begin_turn, below_claim, below_kick, below_leave, below_push, below_send, below_service, below_signal, disarm, in_callbacks, in_global, in_kick, in_loads, in_look, in_mail, in_pick, in_poll, in_pop, in_push, in_ring_wait, in_scan, in_search, in_service, in_signal, in_withdraw, in_word_wait, next_turn, rank}}
 
 worker_most : (some same : Bool) → claim_worker some same ≤ claim_worker false false
 worker_most = grind arith

@@ -1,15 +1,12 @@
 -- A wait on the ring.
-use Rattle.std.proofs.Common.{◌≡◌, ℕ, ◌+◌, ◌<◌, ◌⊎◌, Bool, true, false, not, ◌&&◌, ◌||◌, length, if◌then◌else◌, refl, ap, ◌∙◌, arith, inl, inr}
-use Rattle.std.specs.Prelude.{nat_lt, is_some}
-use Rattle.std.proofs.lemmas.Bool.{true≢false, false≢true}
+use Rattle.std.{proofs.{Common.{◌≡◌, ℕ, ◌+◌, ◌<◌, ◌⊎◌, Bool, true, false, not, ◌&&◌, ◌||◌, length, if◌then◌else◌, refl, ap, ◌∙◌, arith, inl, inr}, lemmas.Bool.{true≢false, false≢true}}, specs.Prelude.{nat_lt, is_some}}
 use Rattle.exec_words.specs.{Word.is_idle_at, declared.word.PureWord.PureWord}
-use Rattle.exec_words.specs.declared.word.WaitTarget.TheVariants as target
 use Rattle.exec_machine.specs.{declared.{config.Configuration.Configuration, event.Event.TheVariants.{Turn, Enter, Sleep}}, Deadlines.next_due, Ranges.ring_size, Tests.is_empty, World.{Common, Own as Books, seat_of}}
-use Rattle.exec_moves.specs.declared.place.AfterService.TheVariants as back
-use Rattle.exec_moves.specs.{declared.{idling.{AfterWait.AfterWait, InRingWait.InRingWait, Stay.Stay}, place.Place.Place}, Callback.{is_full, is_of_pool, serve}, Counts.{gates_from, one_if}, Load.{has_come, has_mail, has_submissions}, Serve.{Ring, entered}, State.{Desk, Moved, Own, Things, WakePoll, does, taken_in, turns, wake_poll_of, word_of}, Submit.{one_more, with_poll}, Thing.{aside, ring_of, with_ring, with_word}, Wait.{disarmed, enter_full_ring, enter_ring, goes_back, has_completion, sleep}}
+use Rattle.exec_moves.specs.{declared.{place.{AfterService.AfterService as back, Place.Place}, idling.{AfterWait.AfterWait, InRingWait.InRingWait, Stay.Stay}}, Callback.{is_full, is_of_pool, serve}, Counts.{gates_from, one_if}, Load.{has_come, has_mail, has_submissions}, Serve.{Ring, entered}, State.{Desk, Moved, Own, Things, WakePoll, does, taken_in, turns, wake_poll_of, word_of}, Submit.{one_more, with_poll}, Thing.{aside, ring_of, with_ring, with_word}, Wait.{disarmed, enter_full_ring, enter_ring, goes_back, has_completion, sleep}}
 use Rattle.exec_settled.specs.Given.{ends_in_search}
 use Rattle.exec_credit.proofs.Due.{due}
 use Rattle.exec_progress.{specs.{Going.{Falls, FallsAt, IsGoing, seen, stands}, Owed.has_stray}, proofs.{Entering.{busy_others, busy_pays, busy_spun, enter_gates, enter_keeps, enter_strays}, Tools.{Now, OwesLess, afterwards, before, either, gone, goes_down, keeps_turns, pays_want, taken_up}, WaitTools.{poll_is, rises, sinks, stirred, word_is}}}
+use Rattle.exec_words.specs.declared.word.WaitTarget.TheVariants as target
 
 -- WHAT A TEST FINDS
 

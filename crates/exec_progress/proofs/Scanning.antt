@@ -1,12 +1,9 @@
 -- The scan: a queue after the other is passed, or some of its values are claimed, moved and published; and a turn begins anew for them.
-use Rattle.std.proofs.Common.{◌≡◌, ℕ, ◌+◌, ◌-◌, ◌≤◌, ◌<◌, ◌==◌, Bool, true, false, not, ◌&&◌, ◌++◌, List, [], ◌∷◌, if◌then◌else◌, refl, sym, ap, ◌∙◌, arith}
-use Rattle.std.specs.Prelude.{nat_lt, take, slice_set}
-use Rattle.std.proofs.lemmas.{Bool.{and_from, eq-eqb, le-leb, ltb-true, ne_eqb}, List.get_or-set_same}
+use Rattle.std.{proofs.{Common.{◌≡◌, ℕ, ◌+◌, ◌-◌, ◌≤◌, ◌<◌, ◌==◌, Bool, true, false, not, ◌&&◌, ◌++◌, List, [], ◌∷◌, if◌then◌else◌, refl, sym, ap, ◌∙◌, arith}, lemmas.{Bool.{and_from, eq-eqb, le-leb, ltb-true, ne_eqb}, List.get_or-set_same}}, specs.Prelude.{nat_lt, take, slice_set}}
 use Rattle.exec_words.specs.{declared.head.Head.Head, Generator.stirred, Head.{claim_at, claimed_head, is_spent}, Queue.{Queue, claimed, head_of, published, released, room_of, tail_of}}
 use Rattle.exec_machine.specs.{declared.config.Configuration.Configuration, Tests.is_empty, World.{Common, Own as Books}}
 use Rattle.exec_moves.specs.{declared.{idling.{InLook.InLook, InScan.InScan, Scan.Scan}, place.Place.Place}, Callback.is_of_pool, Counts.one_if, Load.leaves_for_turn, Pop.same_head, Search.{begun_scan, from_of, half, judge_head, looks_at, past, store_moved}, State.{Desk, Things, no_queue, queue_of, turns}, Thing.{set_queue, with_queue}}
-use Rattle.exec_progress.{specs.{Effort.{may_miss, second_scan}, Going.{Falls, FallsAt, IsGoing, seen, stands}, Owed.{can_steal, is_stealable}, Heights.{release_half, their_tail}, Ranks.{is_fresh, passing}}, proofs.{Idling.{FallsTo, chosen, desk_to, height, idles, in_look, in_scan, loads}, Passing.{Within, above, can_at, comes_to_all, empty_is_not, few_are_not, judged, looks, looks_past, misses_more, misses_same, same_parts, second_le}, Tools.{afterwards, before}, Upward.{for_sure, leaves_is_top, to_turn}}}
-use Rattle.exec_progress.proofs.Popping.{same_again}
+use Rattle.exec_progress.{specs.{Effort.{may_miss, second_scan}, Going.{Falls, FallsAt, IsGoing, seen, stands}, Owed.{can_steal, is_stealable}, Heights.{release_half, their_tail}, Ranks.{is_fresh, passing}}, proofs.{Idling.{FallsTo, chosen, desk_to, height, idles, in_look, in_scan, loads}, Passing.{Within, above, can_at, comes_to_all, empty_is_not, few_are_not, judged, looks, looks_past, misses_more, misses_same, same_parts, second_le}, Tools.{afterwards, before}, Upward.{for_sure, leaves_is_top, to_turn}, Popping.same_again}}
 
 none_behind : (xs ys : List ℕ) → is_empty ys ≡ false → is_empty (xs ++ ys) ≡ false
 none_behind [] ys some = some

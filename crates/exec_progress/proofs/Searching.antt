@@ -1,10 +1,8 @@
 -- The search: where not enough search yet a count is added, and else the worker looks.
-use Rattle.std.proofs.Common.{◌≡◌, ℕ, ◌*◌, ◌≤◌, Bool, true, false, ◌&&◌, refl, ap, arith}
-use Rattle.std.specs.Prelude.{nat_le}
-use Rattle.std.proofs.lemmas.{Bool.{and_from, and_parts, eqb-true, leb-true}}
+use Rattle.std.{proofs.{Common.{◌≡◌, ℕ, ◌*◌, ◌≤◌, Bool, true, false, ◌&&◌, refl, ap, arith}, lemmas.Bool.{and_from, and_parts, eqb-true, leb-true}}, specs.Prelude.nat_le}
 use Rattle.exec_machine.specs.{declared.config.Configuration.Configuration, World.{Common, Own as Books}}
 use Rattle.exec_moves.specs.{declared.{idling.{InLook.InLook, InScan.InScan, InSearch.InSearch}, place.Place.Place}, Counts.one_if, Global.one_count_more, State.{Desk, Things}}
-use Rattle.exec_progress.{specs.{Effort.{searches_alone}, Going.{FallsAt}, Owed.can_steal}, proofs.{Idling.{FallsTo, chosen, counts, in_look, in_scan, in_search}, Passing.second_le}}
+use Rattle.exec_progress.{specs.{Effort.searches_alone, Going.FallsAt, Owed.can_steal}, proofs.{Idling.{FallsTo, chosen, counts, in_look, in_scan, in_search}, Passing.second_le}}
 
 module _ (c : Configuration) (i : ℕ) (me : Books) (s : Common) (d : Desk) (x : Things) where
   pub searches : (p : InSearch) → FallsAt c i me s d x (Place.Search p)

@@ -1,27 +1,10 @@
 -- Who seeks holds a search count: so it is in the first state, and each step keeps it.
-use Rattle.std.proofs.Common.{◌≡◌, ℕ, ◌*◌, ◌+◌, ◌==◌, ◌&&◌, ◌||◌, Bool, true, false, List, [], ◌∷◌, set, if◌then◌else◌, refl, arith}
-use Rattle.std.proofs.lemmas.Bool.{cases_Bool, false≢true}
-use Rattle.std.specs.Prelude.{nat_le, nat_lt, not}
+use Rattle.std.{proofs.{Common.{◌≡◌, ℕ, ◌*◌, ◌+◌, ◌==◌, ◌&&◌, ◌||◌, Bool, true, false, List, [], ◌∷◌, set, if◌then◌else◌, refl, arith}, lemmas.Bool.{cases_Bool, false≢true}}, specs.Prelude.{nat_le, nat_lt, not}}
 use Rattle.exec_words.specs.{Head.is_stealable_at, Queue.{head_of, tail_of}, Word.{asks_signal, is_idle_at}}
-use Rattle.exec_machine.specs.{declared.{config.Configuration.Configuration, step.Action.Action}, Deadlines.next_due, Progress.Plan, Ranges.ring_size, World.{Common, Own as Books, own_of, request_of}}
-use Rattle.exec_machine.specs.declared.step.Action.TheVariants as action
-use Rattle.exec_moves.specs.{declared.{idling.{AfterWait.AfterWait, InRingWait.InRingWait, Stay.Stay}, place.Place.Place}, Callback.{is_full, is_of_pool}, Load.{has_come, has_mail, has_submissions, is_ready, leaves_for_turn}, Look.{look_at_mirror, looks_from, past_own}, Move.{move, move_at}, Plays.{Playing, by_action, by_step, desk_of, first_desk, first_playing, newcomers}, Pop.same_head, Search.from_of, Serve.Ring, State.{Desk, Moved, Things, queue_of, word_of}, Thing.ring_of, Wait.{after_wait, enter_ring, has_completion, noting_sleep, waits}}
-use Rattle.exec_moves.specs.declared.handing.InSignal.TheVariants as signals
-use Rattle.exec_moves.specs.declared.idling.AfterWait.TheVariants as later
-use Rattle.exec_moves.specs.declared.idling.InLook.TheVariants as look
-use Rattle.exec_moves.specs.declared.idling.InRingWait.TheVariants as ring
-use Rattle.exec_moves.specs.declared.idling.InScan.TheVariants as scan
-use Rattle.exec_moves.specs.declared.idling.InSearch.TheVariants as search
-use Rattle.exec_moves.specs.declared.idling.InWordWait.TheVariants as word
-use Rattle.exec_moves.specs.declared.idling.Stay.TheVariants as stay
-use Rattle.exec_moves.specs.declared.place.InLoads.TheVariants as load
-use Rattle.exec_moves.specs.declared.place.InService.TheVariants as step
-use Rattle.exec_moves.specs.declared.place.Place.TheVariants as at
-use Rattle.exec_moves.specs.declared.place.Round.TheVariants as round
-use Rattle.exec_rest.specs.{Posted.has_tested}
-use Rattle.exec_rest.proofs.{Away.{away_signal, calm_untested}, Bare.joined, BareMoves.put_in, Continuing.{calm_light, light_leaves_for_turn}, Untested.untested}
-use Rattle.exec_progress.specs.{Going.is_seeking, Owed.quiet_items, Paced.HaveCounts}
-use Rattle.exec_progress.proofs.{Pace.{each_first, newcomer}, PaceParts.{Calm, signalled, calm_there}, PaceMoves.in_place as tame, PaceSpins.enter_at}
+use Rattle.exec_machine.specs.{declared.{config.Configuration.Configuration, step.Action.{Action, Action as action}}, Deadlines.next_due, Progress.Plan, Ranges.ring_size, World.{Common, Own as Books, own_of, request_of}}
+use Rattle.exec_moves.specs.{declared.{idling.{AfterWait.{AfterWait, AfterWait as later}, InRingWait.{InRingWait, InRingWait as ring}, Stay.{Stay, Stay as stay}, InLook.InLook as look, InScan.InScan as scan, InSearch.InSearch as search, InWordWait.InWordWait as word}, place.{Place.{Place, Place as at}, InLoads.InLoads as load, InService.InService as step, Round.Round as round}, handing.InSignal.InSignal as signals}, Callback.{is_full, is_of_pool}, Load.{has_come, has_mail, has_submissions, is_ready, leaves_for_turn}, Look.{look_at_mirror, looks_from, past_own}, Move.{move, move_at}, Plays.{Playing, by_action, by_step, desk_of, first_desk, first_playing, newcomers}, Pop.same_head, Search.from_of, Serve.Ring, State.{Desk, Moved, Things, queue_of, word_of}, Thing.ring_of, Wait.{after_wait, enter_ring, has_completion, noting_sleep, waits}}
+use Rattle.exec_rest.{specs.Posted.has_tested, proofs.{Away.{away_signal, calm_untested}, Bare.joined, BareMoves.put_in, Continuing.{calm_light, light_leaves_for_turn}, Untested.untested}}
+use Rattle.exec_progress.{specs.{Going.is_seeking, Owed.quiet_items, Paced.HaveCounts}, proofs.{Pace.{each_first, newcomer}, PaceParts.{Calm, signalled, calm_there}, PaceMoves.in_place as tame, PaceSpins.enter_at}}
 
 -- who seeks there holds a search count: of a place and whether one is held, of a desk, and of a move
 abbrev Counts : Bool → Place → Type 0

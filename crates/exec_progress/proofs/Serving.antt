@@ -1,15 +1,10 @@
 -- A service, but for its permits and its staging.
-use Rattle.std.proofs.Common.{◌≡◌, ℕ, ◌+◌, ◌≤◌, ◌<◌, Bool, true, false, not, ◌&&◌, List, [], ◌∷◌, if◌then◌else◌, Option, Some, None, refl, ap, arith}
-use Rattle.std.specs.{Prelude.{nat_le, is_some}, List.list_any}
-use Rattle.std.proofs.lemmas.{Bool.{false≢true, true≢false, and_from, and_parts, leb-true, le-leb}, List.get_or-set_same}
-use Rattle.exec_words.specs.{declared.word.PureWord.PureWord}
-use Rattle.exec_machine.specs.{declared.{config.Configuration.Configuration, event.Event.TheVariants.{Fire}, state.{Request.Request}}, Deadlines.is_due, Ranges.ring_size, Tests.{is_asleep, is_empty, is_open}, World.{Common, Own as Books, seat_of, sleeper_of}}
-use Rattle.exec_moves.specs.{declared.place.{AfterService.AfterService, InMail.InMail, InService.InService, Place.Place, Reaping.Reaping, Service.Service}, Callback.is_full, Counts.{one_if}, Load.{has_mail, has_submissions}}
-use Rattle.exec_progress.specs.Heights.{advance_wheel as advance_wheel_height}
-use Rattle.exec_moves.specs.{Serve.{advance_wheel, after_service, enter_last, first_to_fire, reap, sample, unlatched}, Told.told_of_fire, State.{Desk, Moved, Own, Things, WakePoll, does, serves, dropped, is_dropped, no_wake_poll, no_word, wake_poll_of, word_of}, Thing.{aside, set_wake_poll, set_word, with_ring, with_word}}
-use Rattle.exec_progress.specs.{Effort.is_short, Going.{Falls, FallsAt, is_of_closing, seen, stands}, Owed.{is_any_due, is_any_to_fire}, Ranks.{submits}}
+use Rattle.std.{proofs.{Common.{◌≡◌, ℕ, ◌+◌, ◌≤◌, ◌<◌, Bool, true, false, not, ◌&&◌, List, [], ◌∷◌, if◌then◌else◌, Option, Some, None, refl, ap, arith}, lemmas.{Bool.{false≢true, true≢false, and_from, and_parts, leb-true, le-leb}, List.get_or-set_same}}, specs.{Prelude.{nat_le, is_some}, List.list_any}}
+use Rattle.exec_words.specs.declared.word.PureWord.{PureWord}
+use Rattle.exec_machine.specs.{declared.{config.Configuration.Configuration, event.Event.TheVariants.Fire, state.Request.Request}, Deadlines.is_due, Ranges.ring_size, Tests.{is_asleep, is_empty, is_open}, World.{Common, Own as Books, seat_of, sleeper_of}}
+use Rattle.exec_moves.specs.{declared.place.{AfterService.AfterService, InMail.InMail, InService.InService, Place.Place, Reaping.Reaping, Service.Service}, Callback.is_full, Counts.one_if, Load.{has_mail, has_submissions}, Serve.{advance_wheel, after_service, enter_last, first_to_fire, reap, sample, unlatched}, Told.told_of_fire, State.{Desk, Moved, Own, Things, WakePoll, does, serves, dropped, is_dropped, no_wake_poll, no_word, wake_poll_of, word_of}, Thing.{aside, set_wake_poll, set_word, with_ring, with_word}}
+use Rattle.exec_progress.{specs.{Heights.advance_wheel as advance_wheel_height, Effort.is_short, Going.{Falls, FallsAt, is_of_closing, seen, stands}, Owed.{is_any_due, is_any_to_fire}, Ranks.submits}, proofs.{Entering.{busy_pays, enter_gates, enter_keeps, at_most_one}, Tools.{KeepsTurns, OwesNoMore, afterwards, before, either, gates, goes_down, keeps_turns, pays_want, rest}}}
 use Rattle.exec_credit.proofs.First.{sleepers}
-use Rattle.exec_progress.proofs.{Entering.{busy_pays, enter_gates, enter_keeps, at_most_one}, Tools.{KeepsTurns, OwesNoMore, afterwards, before, either, gates, goes_down, keeps_turns, pays_want, rest}}
 
 -- where all is dropped the wake poll has no end any more, and may have no place: that is paid by its end
 drops_end : (e : Option ℕ) → one_if (is_some (if is_dropped [] e then None else e)) ≡ 0

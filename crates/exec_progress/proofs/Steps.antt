@@ -1,10 +1,9 @@
 -- Small tools for steps that go down.
-use Rattle.std.proofs.Common.{◌≡◌, ℕ, ◌<◌, ◌≤◌, Bool, true, false, if◌then◌else◌, sym, ap, ◌∙◌}
-use Rattle.std.proofs.lemmas.{Bool.{false≢true}, List.set-get_or}
+use Rattle.std.proofs.{Common.{◌≡◌, ℕ, ◌<◌, ◌≤◌, Bool, true, false, if◌then◌else◌, sym, ap, ◌∙◌}, lemmas.{Bool.false≢true, List.set-get_or}}
 use Rattle.exec_machine.specs.{declared.config.Configuration.Configuration, Choice.Choice.Plain, World.{Common, Own as Books}, Text.is_quiet}
-use Rattle.exec_machine.specs.declared.event.Event.TheVariants as event
 use Rattle.exec_moves.specs.{declared.{handing.{AfterPop.AfterPop, InPop.InPop}, place.Place.Place}, Parts.polls, State.{Desk, Moved, Things, no_queue, queue_of}, Thing.set_queue}
 use Rattle.exec_progress.{specs.{Effort.is_short, Going.{Falls, seen, stands}, Heights.leave_search, Ranks.rank}, proofs.Tools.{KeepsTurns, Now, afterwards, before, comes_to_poll, gates, goes_down, keeps_turns, left, rest}}
+use Rattle.exec_machine.specs.declared.event.Event.TheVariants as event
 
 -- a queue that is put back as it was
 pub same_queue : (i : ℕ) (x : Things) → set_queue i x (queue_of x i) ≡ x

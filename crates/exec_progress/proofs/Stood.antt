@@ -1,14 +1,10 @@
 -- What is known of an open worker, while nobody closes, from what is carried and what is given of each state.
-use Rattle.std.proofs.Common.{◌≡◌, ℕ, zero, suc, ◌+◌, ◌*◌, ◌^◌, ◌≤◌, ◌<◌, Bool, true, false, not, ◌&&◌, List, [], ◌∷◌, length, get_or, refl, sym, ap, subst, ◌∙◌, arith}
-use Rattle.std.specs.{Prelude.{nat_lt}, List.list_any}
-use Rattle.std.proofs.lemmas.{Bool.{cases_lt, true≢false, ltb-true, le-ltb, or_parts}, List.{get_or_append_left, get_or_past, get_or-set_same, length-set}}
+use Rattle.std.{proofs.{Common.{◌≡◌, ℕ, zero, suc, ◌+◌, ◌*◌, ◌^◌, ◌≤◌, ◌<◌, Bool, true, false, not, ◌&&◌, List, [], ◌∷◌, length, get_or, refl, sym, ap, subst, ◌∙◌, arith}, lemmas.{Bool.{cases_lt, true≢false, ltb-true, le-ltb, or_parts}, List.{get_or_append_left, get_or_past, get_or-set_same, length-set}}}, specs.{Prelude.nat_lt, List.list_any}}
 use Rattle.exec_credit.proofs.Spins.{within_largest}
-use Rattle.exec_words.specs.{Head.is_spent}
-use Rattle.exec_machine.specs.{After.{own_after}, Callers.is_held, Tests.is_awake, World.Common, declared.{config.{Configuration.Configuration}, state.WorkerPhase.WorkerPhase}, Callers.is_enabled, Progress.{is_anyone_closing}, Tests.{has_ended, is_closing, is_open}, Text.is_quiet, World.{World, Own as Books, Seat, no_seat, own_of, seat_of}}
-use Rattle.exec_machine.specs.declared.step.Action.TheVariants as action
-use Rattle.exec_moves.specs.{declared.{place.Place.Place}, Callback.is_of_pool, Move.{move, move_at}, Plays.{Playing, by_move, desk_of}, Seen.{serves_at}, State.{Desk, Moved, Things, queue_of}}
-use Rattle.exec_rest.specs.{AtRest.{AreBare, IsPlaced, is_fed, is_given}, Posted.IsPosted, Rested.{IsRestful}}
-use Rattle.exec_rest.proofs.Frames.{desk_own}
+use Rattle.exec_words.specs.Head.{is_spent}
+use Rattle.exec_machine.specs.{After.own_after, Callers.{is_held, is_enabled}, Tests.{is_awake, has_ended, is_closing, is_open}, World.{Common, World, Own as Books, Seat, no_seat, own_of, seat_of}, declared.{config.Configuration.Configuration, state.WorkerPhase.WorkerPhase, step.Action.Action as action}, Progress.is_anyone_closing, Text.is_quiet}
+use Rattle.exec_moves.specs.{declared.place.Place.Place, Callback.is_of_pool, Move.{move, move_at}, Plays.{Playing, by_move, desk_of}, Seen.serves_at, State.{Desk, Moved, Things, queue_of}}
+use Rattle.exec_rest.{specs.{AtRest.{AreBare, IsPlaced, is_fed, is_given}, Posted.IsPosted, Rested.IsRestful}, proofs.Frames.desk_own}
 use Rattle.exec_settled.specs.Given.{IsGiven}
 use Rattle.exec_progress.specs.{Left.left_to, Effort.steps_left, Going.{Falls, FallsAt, IsGoing, left_after, is_pushing, seen}, Granted.IsGranted, Paced.IsPaced}
 

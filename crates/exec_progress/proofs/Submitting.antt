@@ -1,13 +1,9 @@
 -- The middle of a service: deadlines, gates and stagings.
-use Rattle.std.proofs.Common.{◌≡◌, ℕ, suc, ◌+◌, ◌*◌, ◌<◌, ◌≤◌, Bool, true, false, not, if◌then◌else◌, ◌&&◌, ◌||◌, List, [], ◌∷◌, length, Option, Some, None, refl, ap, arith}
-use Rattle.std.proofs.lemmas.{Bool.{true≢false, false≢true, and_left, and_right, and_parts, or_from, lt-leb, le-leb, leb-true}, List.get_or-set_same}
-use Rattle.std.specs.Prelude.{nat_lt, nat_le, is_some, slice_get}
-use Rattle.std.specs.List.{list_any}
+use Rattle.std.{proofs.{Common.{◌≡◌, ℕ, suc, ◌+◌, ◌*◌, ◌<◌, ◌≤◌, Bool, true, false, not, if◌then◌else◌, ◌&&◌, ◌||◌, List, [], ◌∷◌, length, Option, Some, None, refl, ap, arith}, lemmas.{Bool.{true≢false, false≢true, and_left, and_right, and_parts, or_from, lt-leb, le-leb, leb-true}, List.get_or-set_same}}, specs.{Prelude.{nat_lt, nat_le, is_some, slice_get}, List.list_any}}
 use Rattle.exec_machine.specs.{declared.{config.Configuration.Configuration, event.Event.TheVariants.{Serve, Busy}}, Ranges.ring_size, Tests.{is_empty, set_seat}, World.{Own as Books, Common, no_seat, seat_of}}
 use Rattle.exec_moves.specs.{declared.place.{AfterService.AfterService, InService.InService, Place.Place, Reaping.Reaping, Service.Service}, Callback.{has_requests, is_full, is_of_pool}, Counts.{count_numbered, gates_from, one_if}, Load.{has_submissions, may_stage}, Serve.{Ring, after_staging, enters, first_numbered}, State.{Desk, Moved, Things, WakePoll, does, no_wake_poll, queue_of, taken_in, wake_poll_of, gate_of}, Submit.{Due, due_next, first_due, granted_at, next_gate, one_more, or_else, request_due, stage_next, staging_due, submits as to_gate, try_gate, waits_at, Due.{Expires, Enrols, AtGate, Flushes, Cancels, Stages, Ends}}, Move.move_submit, Thing.{ring_of, set_wake_poll, with_gate, with_ring}}
 use Rattle.exec_credit.proofs.{Entering.{due_same, gates_same}, First.deadlines, Rings.{no_first, polled_of, full_of}}
-use Rattle.exec_progress.{specs.{Effort.is_short, Going.{Falls, FallsAt, IsGoing, closes_service, seen, stands}, Owed.is_any_due, Heights.submit, Ranks.{below_service, submits as rank_of_submit}}, proofs.{Tools.{Now, afterwards, ahead_at, before, either, gates, goes_down, keeps_turns, left, others_at, pays_want, rest, spun, wanted_at}}}
-use Rattle.exec_progress.proofs.Entering.{at_most_one}
+use Rattle.exec_progress.{specs.{Effort.is_short, Going.{Falls, FallsAt, IsGoing, closes_service, seen, stands}, Owed.is_any_due, Heights.submit, Ranks.{below_service, submits as rank_of_submit}}, proofs.{Tools.{Now, afterwards, ahead_at, before, either, gates, goes_down, keeps_turns, left, others_at, pays_want, rest, spun, wanted_at}, Entering.at_most_one}}
 
 -- GATES: one that was next is left behind
 

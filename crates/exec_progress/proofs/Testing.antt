@@ -1,14 +1,10 @@
 -- The tests at the end of a turn: whether there is something to do, and the clock.
-use Rattle.std.proofs.Common.{◌≡◌, ℕ, zero, suc, ◌+◌, ◌≤◌, Bool, true, false, not, ◌&&◌, ◌||◌, if◌then◌else◌, List, [], ◌∷◌, slice_index_or, refl, arith, ◌⊎◌, inl, inr}
-use Rattle.std.specs.Prelude.{nat_lt, nat_le}
-use Rattle.std.specs.List.{list_any}
-use Rattle.std.proofs.lemmas.Bool.{cases_lt, leb-true, or_from}
+use Rattle.std.{proofs.{Common.{◌≡◌, ℕ, zero, suc, ◌+◌, ◌≤◌, Bool, true, false, not, ◌&&◌, ◌||◌, if◌then◌else◌, List, [], ◌∷◌, slice_index_or, refl, arith, ◌⊎◌, inl, inr}, lemmas.Bool.{cases_lt, leb-true, or_from}}, specs.{Prelude.{nat_lt, nat_le}, List.list_any}}
 use Rattle.exec_words.specs.Queue.{Queue}
 use Rattle.exec_machine.specs.{declared.config.Configuration.Configuration, Deadlines.next_due, Ranges.largest_spin, World.{Common, Own as Books, seat_of}}
 use Rattle.exec_moves.specs.{declared.{idling.{InLook.InLook, InScan.InScan, InSearch.InSearch}, place.{Found.Found, Place.Place}}, Callback.{has_callbacks, is_of_pool}, Counts.one_if, Load.{has_come, has_submissions, is_ready, leaves_for_turn}, State.{Desk, Own, Things, no_queue, turns as turning}, Thing.aside, Wait.{first_search, waits}}
 use Rattle.exec_credit.proofs.Due.{due}
-use Rattle.exec_progress.specs.{Going.{Falls, FallsAt, IsGoing, seen, stands}, Owed.{Signs, can_steal, has_wakes, is_stealable, quiet_items, signs, signs_on}}
-use Rattle.exec_progress.proofs.{Tools.{Now, OwesLess, afterwards, before, either, goes_down, gone}, Upward.{for_sure, leaves_is_top, to_turn, to_wait}}
+use Rattle.exec_progress.{specs.{Going.{Falls, FallsAt, IsGoing, seen, stands}, Owed.{Signs, can_steal, has_wakes, is_stealable, quiet_items, signs, signs_on}}, proofs.{Tools.{Now, OwesLess, afterwards, before, either, goes_down, gone}, Upward.{for_sure, leaves_is_top, to_turn, to_wait}}}
 
 -- WHAT A TEST FINDS
 

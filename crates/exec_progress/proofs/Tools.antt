@@ -1,8 +1,7 @@
 -- How a step is shown to cost some of what a worker has left.
-use Rattle.std.proofs.Common.{◌≡◌, ℕ, zero, suc, ◌+◌, ◌*◌, ◌≤◌, ◌<◌, Bool, true, false, ◌&&◌, ◌||◌, if◌then◌else◌, refl, ap, arith, ◌⊎◌, inl, inr}
-use Rattle.std.specs.Prelude.{nat_lt}
+use Rattle.std.{proofs.Common.{◌≡◌, ℕ, zero, suc, ◌+◌, ◌*◌, ◌≤◌, ◌<◌, Bool, true, false, ◌&&◌, ◌||◌, if◌then◌else◌, refl, ap, arith, ◌⊎◌, inl, inr}, specs.Prelude.nat_lt}
 use Rattle.exec_machine.specs.{declared.config.Configuration.Configuration, After.{own_after, common_after}, World.{Common, Own as Books}}
-use Rattle.exec_moves.specs.{declared.{place.{Place.Place}}, Counts.{gates_from, one_if}, Parts.polls, State.{Desk, Moved, Things}}
+use Rattle.exec_moves.specs.{declared.place.Place.Place, Counts.{gates_from, one_if}, Parts.polls, State.{Desk, Moved, Things}}
 use Rattle.exec_progress.specs.{Effort.{is_short, steps_left, turn_left, whole_spin, whole_turn}, Going.{Falls, seen, stands}, Owed.{ahead, all_others, others, spins_of_signs, spins_owed, turns_owed, wanted}, Heights.leave_search, Ranks.rank}
 
 -- with one more reason for it

@@ -1,11 +1,8 @@
 -- The beginning of a turn, its picks, and the root flag.
-use Rattle.std.proofs.Common.{◌≡◌, ℕ, ◌-◌, Bool, true, false, List, [], ◌∷◌, if◌then◌else◌, refl, arith}
-use Rattle.std.specs.Prelude.{nat_le}
-use Rattle.exec_machine.specs.{declared.config.Configuration.Configuration, World.{Common, Own as Books}}
-use Rattle.exec_moves.specs.{declared.{handing.{AfterCallbacks.AfterCallbacks, AfterPop.AfterPop, First.First, InPop.InPop}, place.{InCallbacks.InCallbacks, InPick.InPick, Place.Place}}, Callback.is_of_pool, Parts.{first_pop, has_others, polls}, Pick.{after_empty_look, one_pick_less, picks_of_turn}, State.{Desk, Own, Things, turns as turning, does}, Thing.{aside}}
-use Rattle.exec_machine.specs.declared.event.Event.TheVariants as event
-use Rattle.exec_progress.{specs.{Going.{Falls, FallsAt, seen, stands}}, proofs.{Steps.{Leads, leads, pop_either, same_queue, sinks}, Tools.{afterwards, before, comes_to_poll, either}}}
-use Rattle.exec_progress.proofs.RingWaits.{never}
+use Rattle.std.{proofs.Common.{◌≡◌, ℕ, ◌-◌, Bool, true, false, List, [], ◌∷◌, if◌then◌else◌, refl, arith}, specs.Prelude.nat_le}
+use Rattle.exec_machine.specs.{declared.{config.Configuration.Configuration, event.Event.Event as event}, World.{Common, Own as Books}}
+use Rattle.exec_moves.specs.{declared.{handing.{AfterCallbacks.AfterCallbacks, AfterPop.AfterPop, First.First, InPop.InPop}, place.{InCallbacks.InCallbacks, InPick.InPick, Place.Place}}, Callback.is_of_pool, Parts.{first_pop, has_others, polls}, Pick.{after_empty_look, one_pick_less, picks_of_turn}, State.{Desk, Own, Things, turns as turning, does}, Thing.aside}
+use Rattle.exec_progress.{specs.Going.{Falls, FallsAt, seen, stands}, proofs.{Steps.{Leads, leads, pop_either, same_queue, sinks}, Tools.{afterwards, before, comes_to_poll, either}, RingWaits.never}}
 
 module _ (c : Configuration) (i : ℕ) (me : Books) (s : Common) (d : Desk) (x : Things) where
   begin_to : (q : Place) → (q ≡ Place.Pick InPick.CountDown) → Falls c i (seen Place.BeginTurn me) s (stands Place.BeginTurn d) x (aside x (turning {T = Own} q (record (stands Place.BeginTurn d) { picks = picks_of_turn }) tt))

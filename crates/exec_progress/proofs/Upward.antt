@@ -1,8 +1,7 @@
 -- What many places have in common: a turn begins anew, or the worker comes to its wait.
-use Rattle.std.proofs.Common.{◌≡◌, ℕ, suc, ◌+◌, ◌≤◌, ◌<◌, Bool, true, false, not, ◌&&◌, if◌then◌else◌, refl, ap, arith, ◌⊎◌, inl, inr}
-use Rattle.std.specs.Prelude.{nat_lt}
+use Rattle.std.{proofs.Common.{◌≡◌, ℕ, suc, ◌+◌, ◌≤◌, ◌<◌, Bool, true, false, not, ◌&&◌, if◌then◌else◌, refl, ap, arith, ◌⊎◌, inl, inr}, specs.Prelude.nat_lt}
 use Rattle.exec_machine.specs.{declared.config.Configuration.Configuration, Deadlines.next_due, Ranges.{largest_spin, ring_size}, World.{Common, Own as Books}}
-use Rattle.exec_moves.specs.{declared.{handing.AfterLeave.AfterLeave, idling.{InRingWait.InRingWait, InWordWait.InWordWait, Stay.Stay}, place.{AfterService.AfterService, Place.Place}}, Callback.{has_requests, is_full, ring_wait, serve}, Counts.one_if, Load.{leaves_for_turn}, State.Desk, Wait.{is_near, waits, word_wait}}
+use Rattle.exec_moves.specs.{declared.{handing.AfterLeave.AfterLeave, idling.{InRingWait.InRingWait, InWordWait.InWordWait, Stay.Stay}, place.{AfterService.AfterService, Place.Place}}, Callback.{has_requests, is_full, ring_wait, serve}, Counts.one_if, Load.leaves_for_turn, State.Desk, Wait.{is_near, waits, word_wait}}
 use Rattle.exec_progress.{specs.{Effort.is_short, Owed.{quiet_items, signs, signs_on}, Ranks.full_ring}, proofs.Tools.{Now, OwesLess, OwesNoMore, ahead_at, at_most, gates, goes_down, goes_up, into_spin, keeps_turns, left, others_at, rest, spun, taken_up, wanted_at}}
 
 -- the same at another place

@@ -1,8 +1,7 @@
 -- What the waits share: how they lead down, up, and out.
-use Rattle.std.proofs.Common.{◌≡◌, ℕ, ◌+◌, ◌≤◌, ◌<◌, ◌==◌, Bool, true, false, not, ◌&&◌, length, refl, ap, ◌⊎◌, inl, inr}
-use Rattle.std.proofs.lemmas.{List.{get_or-set_same}}
+use Rattle.std.proofs.{Common.{◌≡◌, ℕ, ◌+◌, ◌≤◌, ◌<◌, ◌==◌, Bool, true, false, not, ◌&&◌, length, refl, ap, ◌⊎◌, inl, inr}, lemmas.List.get_or-set_same}
 use Rattle.exec_words.specs.{Word.is_idle_at, declared.word.PureWord.PureWord}
-use Rattle.exec_machine.specs.{declared.config.Configuration.Configuration}
+use Rattle.exec_machine.specs.declared.config.Configuration.{Configuration}
 use Rattle.exec_moves.specs.{Load.has_mail, State.{Desk, Things, WakePoll, no_wake_poll, no_word, wake_poll_of, word_of}, Thing.{set_wake_poll, set_word}}
 use Rattle.exec_progress.{specs.Effort.{is_short, whole_turn}, proofs.Tools.{Now, OwesLess, ahead_at, gates, goes_down, goes_up, keeps_turns, left, others_at, rest, spun, wanted_at}}
 

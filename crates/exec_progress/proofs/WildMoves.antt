@@ -1,17 +1,10 @@
 -- The wild moves keep pace too: what was stolen is in hand, a search count is held where it is returned, and no spin grows too long.
-use Rattle.std.proofs.Common.{◌≡◌, ℕ, ◌+◌, ◌≤◌, ◌==◌, Bool, true, false, if◌then◌else◌, take, refl, sym, subst, arith, inl, inr}
-use Rattle.std.proofs.lemmas.Bool.{false≢true, cases_Bool}
-use Rattle.exec_words.specs.{declared.{head.Head.Head}, Head.claim_at, Queue.{Queue, head_of, tail_of}, Word.{asks_signal}}
-use Rattle.exec_machine.specs.{declared.config.{Configuration.Configuration}, Ranges.largest_spin, Tests.is_empty, World.{Common, Own as Books}}
-use Rattle.exec_moves.specs.{declared.{handing.{AfterSignal.AfterSignal}, idling.{InRingWait.InRingWait, InScan.InScan, InWordWait.InWordWait, Stay.Stay}, place.{Place.Place}}, Callback.is_of_pool, Claim.is_ring, Move.{move, move_at}, Parts.after_signal, Pop.same_head, Serve.Ring, State.{Desk, Moved, Things, word_of}, Thing.ring_of, Wait.{enter_ring}}
-use Rattle.exec_moves.specs.declared.handing.InSignal.TheVariants as signals
-use Rattle.exec_moves.specs.declared.idling.InLook.TheVariants as look
-use Rattle.exec_moves.specs.declared.idling.InRingWait.TheVariants as ring
-use Rattle.exec_moves.specs.declared.place.InService.TheVariants as step
-use Rattle.exec_moves.specs.declared.place.Place.TheVariants as at
-use Rattle.exec_credit.{specs.Spins.{IsShort, IsWithin}, proofs.Spins.{within_largest}}
-use Rattle.exec_progress.specs.{Going.{KnowsTail, has_called_back, is_moving, loads_queues}, Owed.quiet_items, Paced.KeepsPace}
-use Rattle.exec_progress.proofs.{PaceParts.{is_wild, Calm, headed, signalled}, PaceMoves.in_place, PacePolls.{Fine, none_left}}
+use Rattle.std.proofs.{Common.{◌≡◌, ℕ, ◌+◌, ◌≤◌, ◌==◌, Bool, true, false, if◌then◌else◌, take, refl, sym, subst, arith, inl, inr}, lemmas.Bool.{false≢true, cases_Bool}}
+use Rattle.exec_words.specs.{declared.head.Head.Head, Head.claim_at, Queue.{Queue, head_of, tail_of}, Word.asks_signal}
+use Rattle.exec_machine.specs.{declared.config.Configuration.Configuration, Ranges.largest_spin, Tests.is_empty, World.{Common, Own as Books}}
+use Rattle.exec_moves.specs.{declared.{handing.{AfterSignal.AfterSignal, InSignal.InSignal as signals}, idling.{InRingWait.{InRingWait, InRingWait as ring}, InScan.InScan, InWordWait.InWordWait, Stay.Stay, InLook.InLook as look}, place.{Place.{Place, Place as at}, InService.InService as step}}, Callback.is_of_pool, Claim.is_ring, Move.{move, move_at}, Parts.after_signal, Pop.same_head, Serve.Ring, State.{Desk, Moved, Things, word_of}, Thing.ring_of, Wait.enter_ring}
+use Rattle.exec_credit.{specs.Spins.{IsShort, IsWithin}, proofs.Spins.within_largest}
+use Rattle.exec_progress.{specs.{Going.{KnowsTail, has_called_back, is_moving, loads_queues}, Owed.quiet_items, Paced.KeepsPace}, proofs.{PaceParts.{is_wild, Calm, headed, signalled}, PaceMoves.in_place, PacePolls.{Fine, none_left}}}
 
 -- A CLAIM
 

@@ -1,16 +1,8 @@
 -- The withdrawal: the own bit goes out of the idle set.
-use Rattle.std.proofs.Common.{ℕ, ◌&&◌, ◌||◌, ◌≤◌, Bool, true, false, not, if◌then◌else◌, refl, arith}
-use Rattle.std.specs.Prelude.{slice_set}
+use Rattle.std.{proofs.Common.{ℕ, ◌&&◌, ◌||◌, ◌≤◌, Bool, true, false, not, if◌then◌else◌, refl, arith}, specs.Prelude.slice_set}
 use Rattle.exec_words.specs.Idle.{Idle, is_in}
 use Rattle.exec_machine.specs.{declared.config.Configuration.Configuration, World.{Common, Own as Books}}
-use Rattle.exec_moves.specs.declared.handing.AfterKick.TheVariants as kick
-use Rattle.exec_moves.specs.declared.handing.AfterLeave.TheVariants as leave
-use Rattle.exec_moves.specs.declared.handing.InKick.TheVariants as kicks
-use Rattle.exec_moves.specs.declared.idling.InLook.TheVariants as look
-use Rattle.exec_moves.specs.declared.idling.InScan.TheVariants as scan
-use Rattle.exec_moves.specs.declared.place.AfterService.TheVariants as back
-use Rattle.exec_moves.specs.{declared.{idling.AfterWait.AfterWait, place.Place.Place}, Callback.{has_requests, serve}, Load.has_submissions, Look.after_withdrawal, State.{Desk, Moved, Things, turns}, Thing.with_idle}
-use Rattle.exec_moves.specs.Global.{has_any}
+use Rattle.exec_moves.specs.{declared.{handing.{AfterKick.AfterKick as kick, AfterLeave.AfterLeave as leave, InKick.InKick as kicks}, idling.{InLook.InLook as look, InScan.InScan as scan, AfterWait.AfterWait}, place.{AfterService.AfterService as back, Place.Place}}, Callback.{has_requests, serve}, Load.has_submissions, Look.after_withdrawal, State.{Desk, Moved, Things, turns}, Thing.with_idle, Global.has_any}
 use Rattle.exec_progress.{specs.{Heights.load_set, Going.{Falls, FallsAt, seen, stands}}, proofs.{Tools.{afterwards, before, either}, WaitTools.sinks}}
 
 module _ (c : Configuration) (i : ℕ) (me : Books) (s : Common) (d : Desk) (x : Things) where

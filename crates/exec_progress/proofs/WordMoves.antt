@@ -1,29 +1,10 @@
 -- A move leaves what the own wake word says that its worker waits on, but where it arms or disarms that.
-use Rattle.std.proofs.Common.{◌≡◌, ℕ, zero, suc, ◌+◌, ◌==◌, Bool, true, false, List, [], ◌∷◌, ◌++◌, get_or, Option, Some, None, if◌then◌else◌, refl, sym, ap, ◌∙◌, arith}
-use Rattle.std.proofs.lemmas.Bool.{true≢false}
-use Rattle.exec_words.specs.{declared.word.PureWord.PureWord, Word.{is_idle_at}}
-use Rattle.exec_machine.specs.{declared.{config.{Configuration.Configuration, ScriptWord.ScriptWord}, state.MailMessage.MailMessage}, Choice.Choice, Deadlines.next_due, World.{Common, Own as Books, task_of}, Words.next_word}
-use Rattle.exec_machine.specs.declared.config.ScriptWord.TheVariants as script
-use Rattle.exec_moves.specs.{declared.{handing.{AfterCallbacks.AfterCallbacks, AfterKick.AfterKick, AfterPop.AfterPop, AfterPush.AfterPush, AfterSend.AfterSend, AfterSignal.AfterSignal, InGlobal.InGlobal, InKick.InKick, InPop.InPop, InPush.InPush, InSignal.InSignal}, idling.{InLook.InLook, InRingWait.InRingWait, InScan.InScan, InSearch.InSearch, InWordWait.InWordWait, Stay.Stay}, place.{InCallbacks.InCallbacks, InClosing.InClosing, InLoads.InLoads, InMail.InMail, InPick.InPick, InPoll.InPoll, InService.InService, Place.Place, Round.Round, Service.Service}}, Load.{has_come, has_mail}, Move.{move_act, move_at, move_callbacks, move_closing, move_global, move_kick, move_loads, move_look, move_look_at, move_mail, move_pick, move_poll, move_pop, move_push, move_ring_wait, move_scan, move_search, move_service, move_signal, move_submit, move_wake, move_word_wait}, Poll.{Sight, Sight.{Here, Asks, HearsRequest, HearsTimer}, sight_of, sight_of_act}, Send.{Mailbox, is_left_out, payer_of_send, posting_of, send_root, wake_own_root}, State.{Desk, Moved, Own, Things, no_word, word_of}, Submit.{Due}, Thing.{aside, mailbox_of, set_word, with_mailbox}, Wait.sleep_on_word}
-use Rattle.exec_machine.specs.Choice.Choice.{Plain, Posts}
-use Rattle.exec_machine.specs.declared.state.MailMessage.TheVariants as message
-use Rattle.exec_moves.specs.declared.handing.AfterSend.TheVariants as send
-use Rattle.exec_moves.specs.declared.handing.InGlobal.TheVariants as global
-use Rattle.exec_moves.specs.declared.handing.InKick.TheVariants as kick
-use Rattle.exec_moves.specs.declared.handing.InPop.TheVariants as pop
-use Rattle.exec_moves.specs.declared.handing.InPush.TheVariants as push
-use Rattle.exec_moves.specs.declared.handing.InSignal.TheVariants as signals
-use Rattle.exec_moves.specs.declared.idling.InLook.TheVariants as look
-use Rattle.exec_moves.specs.declared.idling.InRingWait.TheVariants as ring
-use Rattle.exec_moves.specs.declared.idling.InScan.TheVariants as scan
-use Rattle.exec_moves.specs.declared.idling.InSearch.TheVariants as search
-use Rattle.exec_moves.specs.declared.idling.InWordWait.TheVariants as word
-use Rattle.exec_moves.specs.declared.place.InClosing.TheVariants as closing
-use Rattle.exec_moves.specs.declared.place.InMail.TheVariants as mail
-use Rattle.exec_moves.specs.declared.place.InPick.TheVariants as pick
-use Rattle.exec_moves.specs.declared.place.InPoll.TheVariants as poll
-use Rattle.exec_moves.specs.declared.place.Place.TheVariants as at
+use Rattle.std.proofs.{Common.{◌≡◌, ℕ, zero, suc, ◌+◌, ◌==◌, Bool, true, false, List, [], ◌∷◌, ◌++◌, get_or, Option, Some, None, if◌then◌else◌, refl, sym, ap, ◌∙◌, arith}, lemmas.Bool.true≢false}
+use Rattle.exec_words.specs.{declared.word.PureWord.PureWord, Word.is_idle_at}
+use Rattle.exec_machine.specs.{declared.{config.{Configuration.Configuration, ScriptWord.{ScriptWord, ScriptWord as script}}, state.MailMessage.MailMessage}, Choice.{Choice, Choice.{Plain, Posts}}, Deadlines.next_due, World.{Common, Own as Books, task_of}, Words.next_word}
+use Rattle.exec_moves.specs.{declared.{handing.{AfterCallbacks.AfterCallbacks, AfterKick.AfterKick, AfterPop.AfterPop, AfterPush.AfterPush, AfterSend.{AfterSend, AfterSend as send}, AfterSignal.AfterSignal, InGlobal.{InGlobal, InGlobal as global}, InKick.{InKick, InKick as kick}, InPop.{InPop, InPop as pop}, InPush.{InPush, InPush as push}, InSignal.{InSignal, InSignal as signals}}, idling.{InLook.{InLook, InLook as look}, InRingWait.{InRingWait, InRingWait as ring}, InScan.{InScan, InScan as scan}, InSearch.{InSearch, InSearch as search}, InWordWait.{InWordWait, InWordWait as word}, Stay.Stay}, place.{InCallbacks.InCallbacks, InClosing.{InClosing, InClosing as closing}, InLoads.InLoads, InMail.{InMail, InMail as mail}, InPick.{InPick, InPick as pick}, InPoll.{InPoll, InPoll as poll}, InService.InService, Place.{Place, Place as at}, Round.Round, Service.Service}}, Load.{has_come, has_mail}, Move.{move_act, move_at, move_callbacks, move_closing, move_global, move_kick, move_loads, move_look, move_look_at, move_mail, move_pick, move_poll, move_pop, move_push, move_ring_wait, move_scan, move_search, move_service, move_signal, move_submit, move_wake, move_word_wait}, Poll.{Sight, Sight.{Here, Asks, HearsRequest, HearsTimer}, sight_of, sight_of_act}, Send.{Mailbox, is_left_out, payer_of_send, posting_of, send_root, wake_own_root}, State.{Desk, Moved, Own, Things, no_word, word_of}, Submit.Due, Thing.{aside, mailbox_of, set_word, with_mailbox}, Wait.sleep_on_word}
 use Rattle.exec_rest.proofs.BareMoves.{put_in}
+use Rattle.exec_machine.specs.declared.state.MailMessage.TheVariants as message
 
 -- it arms its wake word, or disarms it
 abbrev pub is_arming : Place → Bool

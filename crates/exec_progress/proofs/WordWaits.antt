@@ -1,14 +1,12 @@
 -- A wait on the wake word.
-use Rattle.std.proofs.Common.{◌≡◌, ℕ, ◌-◌, ◌<◌, Bool, true, false, length, if◌then◌else◌, Option, Some, None, refl, ap, arith, inl, inr}
-use Rattle.std.specs.Prelude.{nat_lt}
-use Rattle.std.proofs.lemmas.Bool.{false≢true, ltb-true}
+use Rattle.std.{proofs.{Common.{◌≡◌, ℕ, ◌-◌, ◌<◌, Bool, true, false, length, if◌then◌else◌, Option, Some, None, refl, ap, arith, inl, inr}, lemmas.Bool.{false≢true, ltb-true}}, specs.Prelude.nat_lt}
 use Rattle.exec_base.specs.Spinner.{Spinner, after_wake}
 use Rattle.exec_words.specs.{Word.is_idle_at, declared.word.PureWord.PureWord}
-use Rattle.exec_words.specs.declared.word.WaitTarget.TheVariants as target
 use Rattle.exec_machine.specs.{declared.{config.Configuration.Configuration, event.Event.TheVariants.{Turn, Sleep}}, Deadlines.next_due, World.{Common, Own as Books}}
 use Rattle.exec_moves.specs.{declared.{idling.{AfterWait.AfterWait, InWordWait.InWordWait}, place.Place.Place}, Callback.is_of_pool, Counts.one_if, Load.{has_come, has_mail}, State.{Desk, Moved, Things, does, turns, word_of}, Thing.with_word, Wait.{after_sleep, disarmed, hit, missed, noting_sleep}}
 use Rattle.exec_credit.proofs.Due.{due}
-use Rattle.exec_progress.{specs.{Going.{Falls, FallsAt, seen, stands}}, proofs.{Tools.{Now, afterwards, before, either, gone, taken_up}, WaitTools.{rises, sinks, stirred, word_is}}}
+use Rattle.exec_progress.{specs.Going.{Falls, FallsAt, seen, stands}, proofs.{Tools.{Now, afterwards, before, either, gone, taken_up}, WaitTools.{rises, sinks, stirred, word_is}}}
+use Rattle.exec_words.specs.declared.word.WaitTarget.TheVariants as target
 
 module _ (c : Configuration) (i : ℕ) (me : Books) (s : Common) (d : Desk) (x : Things) where
   abbrev w : PureWord

@@ -2,10 +2,9 @@
 --
 -- What is left of this turn, another scan where the look may find something that the scan didn't, and a turn for each that is owed. Within a poll it is
 -- the way to the next act, or to the end of the poll, alone: these are no quiet steps.
-use Rattle.std.specs.Prelude.{ℕ, suc, Bool, true, false, not, ◌+◌, ◌*◌, ◌-◌, ◌%◌, ◌==◌, ◌&&◌, ◌||◌, if◌then◌else◌}
-use Rattle.std.specs.List.{list_any, range_with_len}
+use Rattle.std.specs.{Prelude.{ℕ, suc, Bool, true, false, not, ◌+◌, ◌*◌, ◌-◌, ◌%◌, ◌==◌, ◌&&◌, ◌||◌, if◌then◌else◌}, List.{list_any, range_with_len}}
 use Rattle.exec_words.specs.{Head.is_stealable_at, Queue.tail_of}
-use Rattle.exec_machine.specs.{declared.config.Configuration.Configuration, Ranges.{largest_spin}, World.{Common, Own as Books}}
+use Rattle.exec_machine.specs.{declared.config.Configuration.Configuration, Ranges.largest_spin, World.{Common, Own as Books}}
 use Rattle.exec_moves.specs.{declared.{handing.{AfterCallbacks.AfterCallbacks, AfterClaim.AfterClaim, AfterKick.AfterKick, AfterLeave.AfterLeave, AfterPush.AfterPush, AfterSend.AfterSend, AfterSignal.AfterSignal}, idling.{AfterWait.AfterWait, InLook.InLook, InRingWait.InRingWait, InScan.InScan, InSearch.InSearch, InWordWait.InWordWait, Scan.Scan}, place.{InPoll.InPoll, AfterPermit.AfterPermit, AfterService.AfterService, InService.InService, Reaping.Reaping, Round.Round, Place.Place}}, Counts.{gates_from, one_if}, Search.from_of, State.{Desk, Things, queue_of}}
 use Rattle.exec_progress.specs.{Owed.{can_steal, is_stealable, quiet_items, spins_owed, turns_owed}, Ranks.{disarm, is_fresh, rank, spin, withdraw_to_search}}
 

@@ -1,8 +1,6 @@
 -- How far it is from each part that leads to something else down to what follows it: each stands one above the next.
 use Rattle.std.specs.Prelude.{ℕ, suc, Bool, true, false, ◌+◌}
-use Rattle.exec_moves.specs.declared.place.{AfterPermit.AfterPermit, Reaping.Reaping}
-use Rattle.exec_moves.specs.declared.place.AfterPermit.TheVariants as permit
-use Rattle.exec_moves.specs.declared.place.Reaping.TheVariants as reaping
+use Rattle.exec_moves.specs.declared.place.{AfterPermit.{AfterPermit, AfterPermit as permit}, Reaping.{Reaping, Reaping as reaping}}
 
 abbrev pub call_back : ℕ → ℕ
 call_back below = suc below

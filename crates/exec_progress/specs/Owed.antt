@@ -3,10 +3,8 @@
 -- A turn begins only because a worker has seen a sign that there is something to do. A sure sign brings a line that isn't quiet where the turn takes it
 -- up; so while a sure sign is on, and the stage of the turn at which it is taken up is ahead, no other turn follows. Any other sign is gone where it is
 -- taken up, and so is good for one turn.
-use Rattle.std.specs.Prelude.{ℕ, Bool, true, false, not, ◌+◌, ◌*◌, ◌==◌, ◌&&◌, ◌||◌, length, is_some, nat_lt, nat_le, if◌then◌else◌}
-use Rattle.std.specs.List.{list_any}
-use Rattle.exec_words.specs.Queue.{Queue, head_of, tail_of}
-use Rattle.exec_words.specs.Head.{is_stealable_at}
+use Rattle.std.specs.{Prelude.{ℕ, Bool, true, false, not, ◌+◌, ◌*◌, ◌==◌, ◌&&◌, ◌||◌, length, is_some, nat_lt, nat_le, if◌then◌else◌}, List.list_any}
+use Rattle.exec_words.specs.{Queue.{Queue, head_of, tail_of}, Head.is_stealable_at}
 use Rattle.exec_machine.specs.{declared.config.Configuration.Configuration, Ranges.ring_size, World.{Common, seat_of, Own as Books}, Tests.{is_empty, is_asleep}, Deadlines.is_due}
 use Rattle.exec_moves.specs.{declared.{handing.{First.First, AfterCallbacks.AfterCallbacks, AfterClaim.AfterClaim, AfterKick.AfterKick, AfterLeave.AfterLeave, AfterPop.AfterPop, AfterPush.AfterPush, AfterSend.AfterSend, AfterSignal.AfterSignal, InSignal.InSignal}, idling.{AfterWait.AfterWait, InRingWait.InRingWait, InWordWait.InWordWait}, place.{InPick.InPick, InPoll.InPoll, AfterPermit.AfterPermit, AfterService.AfterService, InLoads.InLoads, InMail.InMail, InService.InService, Reaping.Reaping, Round.Round, Place.Place}}, Callback.{is_full, is_of_pool}, Counts.one_if, Load.{has_mail, has_submissions}, State.{Desk, Things, WakePoll, queue_of, word_of, wake_poll_of}}
 

@@ -4,11 +4,10 @@
 -- whether what was loaded before an exchange is still so, since else it is loaded once more. What leads up again, to another turn, stands above the
 -- beginning of a turn.
 use Rattle.std.specs.Prelude.{ℕ, suc, Bool, true, false, ◌+◌, ◌-◌, ◌*◌, if◌then◌else◌}
-use Rattle.exec_words.specs.Idle.{Idle}
+use Rattle.exec_words.specs.{Idle.Idle, declared.{head.Head.Head, idle.WorkerSet.WorkerSet}, Queue.head_of}
 use Rattle.exec_machine.specs.{declared.config.Configuration.Configuration, Ranges.ring_size}
 use Rattle.exec_moves.specs.{declared.{handing.{First.First, AfterCallbacks.AfterCallbacks, AfterClaim.AfterClaim, AfterKick.AfterKick, AfterLeave.AfterLeave, AfterPop.AfterPop, AfterPush.AfterPush, AfterSend.AfterSend, AfterSignal.AfterSignal, InGlobal.InGlobal, InKick.InKick, InPop.InPop, InPush.InPush, InSignal.InSignal}, idling.{AfterWait.AfterWait, InLook.InLook, InRingWait.InRingWait, InScan.InScan, InSearch.InSearch, InWordWait.InWordWait}, place.{InPick.InPick, InPoll.InPoll, InCallbacks.InCallbacks, AfterService.AfterService, InLoads.InLoads, InMail.InMail, InService.InService, Round.Round, Place.Place}}, Callback.is_full, Claim.same_bools, Global.has_any, Pop.same_head, Search.from_of, State.{Desk, Things, queue_of}}
 use Rattle.exec_progress.specs.Heights.{advance_wheel, after_permit, append, call_back, claim_half, claim_worker, end_service, enter_last, exchange_pop, flow_over, flush, leave_search, load_kick_count, load_own_head, load_pop_head, load_push_head, load_set, look_at_global, move_half, pass_permit, raise, raise_count, reap, release_half, return_global_count, return_kick_count, sample, set_latch, share, store_moved, store_oldest, store_pop, store_value, submit, take_batch, their_head, their_tail}
-use Rattle.exec_words.specs.{declared.{head.Head.Head, idle.WorkerSet.WorkerSet}, Queue.head_of}
 
 -- THE WAITS, from the sleep up
 abbrev pub sleep : ℕ

@@ -1,21 +1,12 @@
 //! Worked examples of what a worker has left.
 
 ghost use Rattle.std.specs.Prelude.{◌≡◌, ℕ, true};
-ghost use Rattle.exec_machine.specs.{Progress.quiet_bound, World.{own_of}};
-ghost use Rattle.exec_moves.specs.State.{Desk, Things};
-ghost use Rattle.exec_moves.specs.declared.handing.InPush.{InPush};
-ghost use Rattle.exec_moves.specs.declared.handing.AfterPush.TheVariants as push;
-ghost use Rattle.exec_moves.specs.declared.idling.InLook.TheVariants as look;
-ghost use Rattle.exec_moves.specs.declared.idling.InScan.TheVariants as scan;
-ghost use Rattle.exec_moves.specs.declared.idling.InWordWait.TheVariants as word;
-ghost use Rattle.exec_moves.specs.declared.place.InClosing.TheVariants as closing;
-ghost use Rattle.exec_moves.specs.declared.place.Place.TheVariants as at;
+ghost use Rattle.exec_machine.specs.{Progress.quiet_bound, World.own_of};
+ghost use Rattle.exec_moves.specs.{State.{Desk, Things}, declared.{handing.{InPush.InPush, AfterPush.AfterPush as push}, idling.{InLook.InLook as look, InScan.InScan as scan, InWordWait.InWordWait as word}, place.Place.Place as at}};
 ghost use Rattle.exec_rest.specs.Examples.{rested, two_waiting, with_a_latch};
 ghost use Rattle.exec_settled.specs.Examples.{second, with_second};
-ghost use Rattle.exec_progress.specs.Left.{left_to};
-ghost use Rattle.exec_progress.specs.{Granted.IsGranted, Ranks.rank};
-ghost use Rattle.exec_progress.specs.Owed.{beginning, flagging, spins_owed, stage, turns_owed};
-ghost use Rattle.exec_progress.specs.Paced.{AreAimed, HaveCounts, HavePace, IsPaced};
+ghost use Rattle.exec_progress.specs.{Left.left_to, Granted.IsGranted, Ranks.rank, Owed.{beginning, flagging, spins_owed, stage, turns_owed}, Paced.{AreAimed, HaveCounts, HavePace, IsPaced}};
+ghost use Rattle.exec_moves.specs.declared.place.InClosing.TheVariants as closing;
 
 /// Of two workers: a turn begins 74 steps above the sleep, the last look 15, and a spin of three looks 10, whatever the
 /// worker has. All that a turn takes up is ahead where it begins; once its last pick is made the queues are not.

@@ -1,9 +1,7 @@
 -- A queue whose runnables are popped one after another.
-use Rattle.std.proofs.Common.{◌≡◌, ℕ, ◌+◌, ◌<◌, List, [], ◌∷◌, ◌++◌, length, refl, ap, sym, ◌∙◌, append-nil, append_assoc, le_refl, arith}
-use Rattle.std.specs.Prelude.{Some, None, slice_get, drop}
+use Rattle.std.{proofs.Common.{◌≡◌, ℕ, ◌+◌, ◌<◌, List, [], ◌∷◌, ◌++◌, length, refl, ap, sym, ◌∙◌, append-nil, append_assoc, le_refl, arith}, specs.Prelude.{Some, None, slice_get, drop}}
 use Rattle.exec_words.specs.Queue.{Queue, tail_of}
-use Rattle.exec_live_queue.specs.{declared.{view.Own.Own, owner.Owner.Owner}, Alone.TakesFront, Calls.{looked, HasPopped}, Kinds.{Does, IsDrained, Looks, count}}
-use Rattle.exec_live_queue.specs.declared.owner.Owner.TheVariants as owner
+use Rattle.exec_live_queue.specs.{declared.{view.Own.Own, owner.Owner.{Owner, Owner as owner}}, Alone.TakesFront, Calls.{looked, HasPopped}, Kinds.{Does, IsDrained, Looks, count}}
 use Rattle.exec_ready.specs.Discards.{HasDiscarded, IsEmptied}
 
 module _ {T : Type 0} where

@@ -1,2 +1,1 @@
 pub mod Unheld
-mod Woken

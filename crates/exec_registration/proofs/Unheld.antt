@@ -1,30 +1,21 @@
--- What was let go is held by nobody.
-use Rattle.std.proofs.Common.{◌≡◌, ◌<◌, Bool, true, false, length, Option, Some, None, refl, ap, inl, inr}
-use Rattle.std.proofs.lemmas.Bool.{cases_lt}
-use Rattle.std.proofs.lemmas.List.{get_or_past}
-use Rattle.exec_base.proofs.Slots.{Changed-set, Updates-write, Updates-free, was_live}
-use Rattle.exec_base.specs.{Slab.{Slab, value_at, slot_at, written, removed, freed}, declared.slab.{Id.Id, Slot.TheVariants.{Live, Vacant}}}
+-- What was let go is held by nobody, and what is to wake a task is found to do so.
+use Rattle.std.proofs.{Common.{◌≡◌, Bool, true, false, Option, Some, None, refl, ap}, lemmas.Bool.eq-eqb}
+use Rattle.exec_base.{proofs.Slots.{Changed-set, IsLiveAt-from_value, Updates-free, Updates-write, live_within, was_live}, specs.{Slab.{Slab, value_at, written, removed, freed}, declared.{slab.Id.Id, task_no.TaskNo.TaskNo}}}
 use Rattle.exec_driver.specs.{Driving.Driving, Steps.{let_go, cancelled_from}}
 use Rattle.exec_request.specs.{Requests.goes_on_alone, States.asks_cancel}
-use Rattle.exec_time.specs.declared.timers.Sleeper.{Sleeper}
-use Rattle.exec_waiters.specs.{Events.{cancelled, with_observer}, States.{is_held_at, is_held_by, waiter_of}, declared.{observer.Observer.TheVariants.Orphaned, waiter.{Entry.{Entry, TheVariants.{Pending, Ready}}, Waiter.Waiter}, waiter_id.WaiterId.WaiterId}}
+use Rattle.exec_time.specs.{Sleepers.{observation, is_forwarded}, declared.timers.{Observation.TheVariants.{Pending as IsAwaited, Refresh}, Observer.TheVariants.Local as ByTask, Sleeper.Sleeper}}
+use Rattle.exec_waiters.specs.{Events.{cancelled, changed, seen_by, with_observer, with_waker}, States.{is_held_at, is_held_by, may_be_seen, waiter_of}, declared.{observer.Observer.TheVariants.Orphaned, waiter.{Entry.{Entry, TheVariants.{Pending, Ready}}, Waiter.Waiter}, waiter_id.WaiterId.WaiterId}}
 
 module _ {T : Type 0} where
   -- what is written stands there, and what is removed doesn't
-  pub at_written : (s : Slab T) (id : Id) (was is : T) → value_at s id ≡ Some was → value_at (written s id is) id ≡ Some is
+  at_written : (s : Slab T) (id : Id) (was is : T) → value_at s id ≡ Some was → value_at (written s id is) id ≡ Some is
   at_written s id was is at = (Updates-write s id is (rw at refl)).changed
-
-  within : (s : Slab T) (id : Id) (v : T) → slot_at s id.index ≡ Live id.generation v → id.index < length s.slots
-  within s id v live =
-      elim (cases_lt id.index (length s.slots)) [
-        | inl inside ↦ inside
-        | inr past ↦ let none = get_or_past s.slots id.index (Vacant s.first) past in absurd (cc)
-      ]
 
   at_removed : (s : Slab T) (id : Id) (was : T) → value_at s id ≡ Some was → value_at (removed s id) id ≡ None
   at_removed s id was at =
-      let live = was_live s id (rw at refl) in
-      (Updates-free s (removed s id) id live.0 (Changed-set s (removed s id) id.index (freed id.generation) refl refl (within s id live.0 live.1)) live.1).changed
+      let live = IsLiveAt-from_value s.slots id.index id.generation s.first (rw at refl) in
+      let held = was_live s id (rw at refl) in
+      (Updates-free s (removed s id) id held.0 (Changed-set s (removed s id) id.index (freed id.generation) refl refl (live_within s.slots id.index id.generation live.value live.is)) held.1).changed
 
 -- a sleeper that was removed, or wasn't there, is gone
 pub timer_gone : {S : Type 0} → (s new : Slab (Sleeper S)) (id : Id) (o : Option (Sleeper S)) → value_at s id ≡ o → ((sleeper : Sleeper S) → value_at s id ≡ Some sleeper → new ≡ removed s id) → (value_at s id ≡ None → new ≡ s) → value_at new id ≡ None
@@ -58,3 +49,17 @@ module _ {S F : Type 0} where
   -- nobody holds a request that was let go
   pub let_go_unheld : (d : Driving S F) (id : WaiterId) → is_held_at (value_at (let_go d id).requests id.0) ≡ false
   let_go_unheld d id = unheld_from d id (value_at d.requests id.0) refl
+
+  -- a request that is to wake a task is found to do so, and the task may look at it
+  pub request_wakes : (s : Slab (Entry S F)) (id : Id) (task : TaskNo) (o : Option (Entry S F)) → value_at s id ≡ o → may_be_seen o ≡ true → seen_by task o ≡ Refresh → (seen_by task (value_at (changed s id (with_waker task)) id) ≡ IsAwaited) × (may_be_seen (value_at (changed s id (with_waker task)) id) ≡ true)
+  request_wakes s id task None at seen stale = absurd (cc)
+  request_wakes s id task (Some (Ready told)) at seen stale = absurd (cc)
+  request_wakes s id task (Some (Pending w)) at seen stale =
+      rw (at, at_written s id (Pending w) (Pending (with_waker task w)) at, eq-eqb task.0 task.0 refl) (refl, refl)
+
+module _ {S : Type 0} where
+  -- and so is a sleeper
+  pub sleeper_wakes : (s new : Slab (Sleeper S)) (id : Id) (task : TaskNo) (o : Option (Sleeper S)) → value_at s id ≡ o → observation task o ≡ Refresh → ((sleeper : Sleeper S) → value_at s id ≡ Some sleeper → new ≡ written s id (record sleeper { observer = ByTask task })) → (observation task (value_at new id) ≡ IsAwaited) × (is_forwarded (value_at new id) ≡ false)
+  sleeper_wakes s new id task None at stale set = absurd (cc)
+  sleeper_wakes s new id task (Some sleeper) at stale set =
+      rw (set sleeper at, at_written s id sleeper (record sleeper { observer = ByTask task }) at, eq-eqb task.0 task.0 refl) (refl, refl)

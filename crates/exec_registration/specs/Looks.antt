@@ -9,8 +9,7 @@ module _ {T A : Type 0} where
   -- one value where the thing has ended, and else another
   abbrev pub if_ready : Observation T → A → A → A
   if_ready (Ready output) taken same = taken
-  if_ready Pending taken same = same
-  if_ready Refresh taken same = same
+  if_ready _ taken same = same
 
   -- what a poll makes of the worker: what the thing gave is taken; nothing changes where it will wake the task; else it
   -- will from now on

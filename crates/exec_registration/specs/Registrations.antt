@@ -1,43 +1,38 @@
 -- How a registration stands, and what a poll and a release do.
 use Rattle.std.specs.Prelude.{◌≡◌, ℕ, Bool, true, List, ◌⊎◌, Option, Some, None, Result, Ok, Err}
 use Rattle.exec_base.specs.{OneShot.{poll_answer, polled}, Post.Takes, declared.{error.Error.Error, one_shot.OneShotState.OneShotState}}
-use Rattle.exec_base.specs.declared.error.Error.TheVariants as error
-use Rattle.exec_registration.specs.declared.registration.RegistrationState.{RegistrationState, TheVariants.{Waiting, Forwarded, Closed, Done}}
-use Rattle.exec_time.specs.declared.timers.Observation.{Observation, TheVariants.{Ready, Pending, Refresh}}
+use Rattle.exec_registration.specs.declared.registration.RegistrationState.{RegistrationState, TheVariants.{Waiting, Forwarded, Done}}
+use Rattle.exec_time.specs.declared.timers.Observation.{Observation, TheVariants.Ready}
 
 module _ {K : Type 0} where
   -- what it still waits for: the worker and the key
   abbrev pub pending_of : RegistrationState K → Option (ℕ × K)
   pending_of (Waiting at key) = Some (at, key)
   pending_of (Forwarded at key) = Some (at, key)
-  pending_of Closed = None
-  pending_of Done = None
+  pending_of _ = None
 
 module _ {T : Type 0} where
   -- what a look at the thing answers
   abbrev pub told_by_look : Observation T → Result (Option T) Error
   told_by_look (Ready output) = Ok (Some output)
-  told_by_look Pending = Ok None
-  told_by_look Refresh = Ok None
+  told_by_look _ = Ok None
 
   -- what a look at the one-shot answers: nothing yet, the result, or that it is closed
   abbrev pub heard : Result (Option (Result T Error)) Error → Result (Option T) Error
   heard (Ok None) = Ok None
   heard (Ok (Some (Ok output))) = Ok (Some output)
   heard (Ok (Some (Err e))) = Err e
-  heard (Err _) = Err error.Closed
+  heard (Err _) = Err Error.Closed
 
 module _ {K T : Type 0} where
   -- how the registration stands after either look
   abbrev pub state_after : RegistrationState K → Observation T → RegistrationState K
   state_after state (Ready output) = Done
-  state_after state Pending = state
-  state_after state Refresh = state
+  state_after state _ = state
 
   abbrev pub after_hearing : RegistrationState K → Result (Option (Result T Error)) Error → RegistrationState K
   after_hearing state (Ok None) = state
-  after_hearing state (Ok (Some _)) = Done
-  after_hearing state (Err _) = Done
+  after_hearing state _ = Done
 
 module _ {M P : Type 0} (is_closed : P → Bool) (taken : P → Option (List M)) where
   -- the post was closed, at the latest when it refused the message
@@ -60,7 +55,7 @@ module _ {M P K T : Type 0} (is_closed : P → Bool) (taken : P → Option (List
   -- or it was closed, and the registration is over
   pub record IsTurnedAway (old new : P) (state : RegistrationState K) (before after : OneShotState (Result T Error)) (answer : Result (Option T) Error) : Type 0 where
     pub shut : IsShut is_closed taken old new
-    pub told : answer ≡ Err error.Closed
+    pub told : answer ≡ Err Error.Closed
     pub over : state ≡ Done
     pub unheard : after ≡ before
 

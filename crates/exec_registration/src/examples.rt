@@ -1,8 +1,7 @@
 //! Worked examples of what a poll and the beginning of a sync answer.
 
 ghost use Rattle.std.specs.Prelude.{◌≡◌, Some, None, Ok, Err, true, false};
-ghost use Rattle.exec_base.specs.OneShot.{poll_answer};
-ghost use Rattle.exec_base.specs.declared.error.Error.TheVariants as error;
+ghost use Rattle.exec_base.specs.{OneShot.poll_answer, declared.error.Error.Error as error};
 ghost use Rattle.exec_outcomes.specs.Accounts.{fresh_account, changed, covered, poisoned};
 ghost use Rattle.exec_registration.specs.{Admissions.over_at_once, Examples.{waiting, forwarded, refused, over, ended, waits, wakes_another, nothing_sent, given, turned_away, never_sent}, Looks.after_look, Registrations.{pending_of, told_by_look, state_after, heard, after_hearing}};
 

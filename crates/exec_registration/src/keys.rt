@@ -2,9 +2,7 @@
 
 ghost use Rattle.std.specs.Prelude.{◌≡◌, false, true};
 ghost use Rattle.exec_base.specs.Slab.{value_at};
-ghost use Rattle.exec_registration.specs.Looks.{without_output, with_task, awake_by};
-ghost use Rattle.exec_registration.specs.declared.mail.Cancel.TheVariants as cancel;
-ghost use Rattle.exec_registration.specs.declared.mail.Forward.TheVariants as forward;
+ghost use Rattle.exec_registration.specs.{Looks.{without_output, with_task, awake_by}, declared.mail.{Cancel.Cancel as cancel, Forward.Forward as forward}};
 ghost use Rattle.exec_time.specs.Sleepers.{is_forwarded, observation};
 ghost use Rattle.exec_waiters.specs.{Events.seen_by, States.may_be_seen};
 

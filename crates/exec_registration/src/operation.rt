@@ -10,13 +10,9 @@ ghost use Rattle.exec_base.specs.declared.error.Error.TheVariants as error;
 ghost use Rattle.exec_driver.specs.{Admission.IsRefused, Footprints.footprint_of};
 ghost use Rattle.exec_opens.specs.Opens.{account_in};
 ghost use Rattle.exec_ring.specs.Stores.{Reserves};
-ghost use Rattle.exec_waiters.specs.States.{suits};
-ghost use Rattle.exec_registration.specs.{Homes.{StaysPunctual, home_of}, Admissions.{Registers, Begins, TakesIn, IsKept, Untouched, over_at_once}};
-ghost use Rattle.exec_registration.specs.declared.operation.Started.TheVariants as started;
-ghost use Rattle.exec_registration.specs.declared.registration.RegistrationState.TheVariants as state;
-ghost use Rattle.exec_request.specs.Requests.{gate_of};
-ghost use Rattle.exec_request.specs.declared.request.Request.TheVariants as request_of;
-ghost use Rattle.exec_waiters.specs.declared.observer.Observer.TheVariants as observer_of;
+ghost use Rattle.exec_registration.specs.{Homes.{StaysPunctual, home_of}, Admissions.{Registers, Begins, TakesIn, IsKept, Untouched, over_at_once}, declared.{operation.Started.Started as started, registration.RegistrationState.RegistrationState as state}};
+ghost use Rattle.exec_request.specs.{Requests.gate_of, declared.request.Request.Request as request_of};
+ghost use Rattle.exec_waiters.specs.{States.suits, declared.observer.Observer.Observer as observer_of};
 
 use crate::mail::Places;
 use crate::registration::Registration;
@@ -128,16 +124,9 @@ pub fn start_sync<R: Ring + Drop, S: Drop, F: Drop>(
         None if home.closing => return Ok(Started::Over(Err(Error::Closed))),
         None => {}
     }
+    let request = Request::Sync(request);
     let observer = Observer::DetachedSync(sender);
-    let id = take_in(
-        alloc,
-        Request::Sync(request),
-        observer,
-        home,
-        0,
-        opens,
-        store,
-    )?;
+    let id = take_in(alloc, request, observer, home, 0, opens, store)?;
     Ok(Started::UnderWay(id))
 }
 
@@ -171,13 +160,7 @@ fn take_in<R: Ring + Drop, S: Drop, F: Drop>(
     ensures kept { OnErr result (IsKept (home_of home.old) (home_of home.new) opens.old opens.new store.old store.new) }
     ensures punctual { StaysPunctual (home_of home.old) (home_of home.new) }
 {
-    home.driver.admit(
-        alloc,
-        request,
-        observer,
-        now,
-        opens,
-        &mut home.deferred,
-        store,
-    )
+    let deferred = &mut home.deferred;
+    home.driver
+        .admit(alloc, request, observer, now, opens, deferred, store)
 }

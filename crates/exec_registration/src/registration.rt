@@ -19,11 +19,9 @@
 //! still waits for is then observed by nobody: it is let go here, where it is this worker's, and elsewhere by a message.
 
 ghost use Rattle.std.specs.Prelude.{◌≡◌, ℕ, ◌≢◌, Some, Ok, Err, None, true, false};
-ghost use Rattle.exec_base.specs.OneShot.{poll_answer, polled};
-ghost use Rattle.exec_base.specs.declared.error.Error.TheVariants as error;
+ghost use Rattle.exec_base.specs.{OneShot.{poll_answer, polled}, declared.error.Error.Error as error};
 ghost use Rattle.exec_time.specs.declared.timers.Observation.TheVariants as observation;
-ghost use Rattle.exec_registration.specs.{Homes.{HomeState, StaysPunctual, home_of}, Mail.{HasRoomFor, Cancels, IsUnheld}, Looks.{if_ready, after_look}, Registrations.{told_by_look, state_after, heard, after_hearing, pending_of, Asks, Sends}, declared.mail.{Cancel.Cancel as CancelOf, Forward.Forward as ForwardOf}};
-ghost use Rattle.exec_registration.specs.declared.registration.RegistrationState.TheVariants as state;
+ghost use Rattle.exec_registration.specs.{Homes.{HomeState, StaysPunctual, home_of}, Mail.{HasRoomFor, Cancels, IsUnheld}, Looks.{if_ready, after_look}, Registrations.{told_by_look, state_after, heard, after_hearing, pending_of, Asks, Sends}, declared.{mail.{Cancel.Cancel as CancelOf, Forward.Forward as ForwardOf}, registration.RegistrationState.RegistrationState as state}};
 
 use crate::mail::{Cancel, Forward};
 use exec_base::error::Error;
@@ -130,18 +128,16 @@ impl<K: Copy> Registration<K> {
     pub fn new(worker: u32, key: K) -> Self
         ensures { result ≡ state.Waiting worker key }
     {
-        Registration {
-            state: RegistrationState::Waiting(worker, key),
-        }
+        let state = RegistrationState::Waiting(worker, key);
+        Registration { state }
     }
 
     /// A registration that a closing worker refused.
     pub fn closed() -> Self
         ensures { result ≡ state.Closed }
     {
-        Registration {
-            state: RegistrationState::Closed,
-        }
+        let state = RegistrationState::Closed;
+        Registration { state }
     }
 
     /// How it stands.
@@ -319,8 +315,7 @@ impl<K: Copy> Registration<K> {
     {
         match answer.poll() {
             Ok(None) => Ok(None),
-            Ok(Some(Ok(output))) => self.end(Ok(Some(output))),
-            Ok(Some(Err(error))) => self.end(Err(error)),
+            Ok(Some(sent)) => self.end(sent.map(Some)),
             Err(_) => self.end(Err(Error::Closed)),
         }
     }

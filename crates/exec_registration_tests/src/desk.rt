@@ -3,13 +3,9 @@
 ghost use Rattle.std.specs.Prelude.{◌≡◌, IsTrue, true, false};
 ghost use Rattle.exec_base.specs.Slab.{value_at};
 ghost use Rattle.exec_driver.specs.Driving.{seen};
-ghost use Rattle.exec_registration.specs.declared.registration.RegistrationState.TheVariants as state;
-ghost use Rattle.exec_time.specs.Sleepers.{is_forwarded};
-ghost use Rattle.exec_time.specs.declared.timers.TimerId.{TimerId as Timer};
-ghost use Rattle.exec_time.specs.Notes.{HasRoom};
-ghost use Rattle.exec_waiters.specs.States.{may_be_seen};
-ghost use Rattle.exec_waiters.specs.Told.{HasPlaces};
-ghost use Rattle.exec_waiters.specs.declared.waiter_id.WaiterId.{WaiterId as Name};
+ghost use Rattle.exec_registration.specs.declared.registration.RegistrationState.{RegistrationState as state};
+ghost use Rattle.exec_time.specs.{Sleepers.is_forwarded, declared.timers.TimerId.TimerId as Timer, Notes.HasRoom};
+ghost use Rattle.exec_waiters.specs.{States.may_be_seen, Told.HasPlaces, declared.waiter_id.WaiterId.WaiterId as Name};
 
 use crate::found::{demand, holds, refuse, same};
 use crate::mail::Mail;

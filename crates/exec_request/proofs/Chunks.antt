@@ -1,8 +1,5 @@
 -- Sums over the chunks of a list, up to a place in it and from there on.
-use Rattle.std.proofs.Common.{◌≡◌, ℕ, ◌+◌, ◌-◌, ◌<◌, ◌≤◌, true, List, [], length, take, drop, get_or, sym, ap, ◌∙◌, arith, length-drop, inl, inr, lit<, add-zero}
-use Rattle.std.proofs.lemmas.Bool.{cases_lt}
-use Rattle.std.proofs.lemmas.List.{get_or-drop, take_all, get_or-take, get_or_past, length-take}
-use Rattle.std.proofs.lemmas.List.Sums.{sum_by_more, sum_by_more_le, sum_by-take-le, sum_by-take-drop}
+use Rattle.std.proofs.{Common.{◌≡◌, ℕ, ◌+◌, ◌-◌, ◌<◌, ◌≤◌, true, List, [], length, take, drop, get_or, sym, ap, ◌∙◌, arith, length-drop, inl, inr, lit<, add-zero}, lemmas.{Bool.cases_lt, List.{get_or-drop, take_all, get_or-take, get_or_past, length-take, Sums.{sum_by_more, sum_by_more_le, sum_by-take-le, sum_by-take-drop}}}}
 use Rattle.exec_bufs.specs.Buffers.{total}
 use Rattle.exec_request.specs.Buffers.{is_within}
 

@@ -1,13 +1,7 @@
 -- What a request promises that judges one result by its cursor.
 use Rattle.std.proofs.Common.{◌≡◌, ℕ, ◌+◌, Bool, true, false, not, ◌&&◌, Option, sym, ◌∙◌, if◌then◌else◌, arith}
-use Rattle.exec_outcomes.specs.declared.outcome.Judged.{Judged}
-use Rattle.exec_outcomes.specs.declared.outcome.Outcome.{Outcome}
-use Rattle.exec_outcomes.specs.Outcomes.{Asked, Cursor, outcome_next, cursor_next, passes_on, first_part, part_now, counted_for, refuses_hint}
-use Rattle.exec_outcomes.proofs.Runs.{next, goes_on}
-use Rattle.exec_request.specs.Judging.{Judges}
-use Rattle.exec_request.specs.Hints.{asks_hint}
-use Rattle.exec_request.specs.declared.cache.Cache.{Cache}
-use Rattle.exec_request.specs.declared.cache.Cache.TheVariants.{Enabled}
+use Rattle.exec_outcomes.{specs.{declared.outcome.{Judged.Judged, Outcome.Outcome}, Outcomes.{Asked, Cursor, outcome_next, cursor_next, passes_on, first_part, part_now, counted_for, refuses_hint}}, proofs.Runs.{next, goes_on}}
+use Rattle.exec_request.specs.{Judging.Judges, Hints.asks_hint, declared.cache.Cache.{Cache, TheVariants.Enabled}}
 
 pub judges : (asked : Asked) (before after : Cursor) (r : Judged) (answer : Option Outcome) → answer ≡ outcome_next asked before r → after ≡ cursor_next asked before r → (r.hinted ≡ true → before.hinted ≡ true) → Judges asked before after r answer
 judges asked before after r answer by moves allowed =

@@ -1,21 +1,7 @@
 -- What one more result means depends on what is left alone.
-use Rattle.std.proofs.Common.{◌≡◌, ℕ, ◌+◌, ◌-◌, Bool, true, false, not, ◌||◌, ◌&&◌, [], ◌∷◌, Option, Some, None, find, refl, sym, ap, ◌∙◌, inl, inr, arith, if◌then◌else◌, leb}
-use Rattle.std.specs.List.{after_first}
-use Rattle.std.proofs.lemmas.Bool.{cases_Bool}
-use Rattle.exec_outcomes.specs.declared.outcome.Kind.{Kind}
-use Rattle.exec_outcomes.specs.declared.outcome.Kind.TheVariants.{Read, Direct, Write, Dsync, Many, Sync}
-use Rattle.exec_outcomes.specs.declared.outcome.OpResult.{OpResult}
-use Rattle.exec_outcomes.specs.declared.outcome.Judged.{Judged}
-use Rattle.exec_outcomes.specs.declared.outcome.Outcome.{Outcome}
-use Rattle.exec_outcomes.specs.Outcomes.{Asked, Part, first_length, first_part, bytes_of, is_positive, takes_any, is_transient, refuses_hint, lasting, with_totals, results_in, completes, decides, passes_on, stops, verdict, verdict_of, outcome_by, outcome_by_stop, outcome_next}
-use Rattle.exec_outcomes.proofs.Runs.{one_lasts, after_only}
-use Rattle.exec_request.specs.Judging.{whole, judged_alone, is_enough, passes, ends}
-use Rattle.exec_request.specs.Ways.{asked_by, is_direct, is_switched, size_for}
-use Rattle.exec_request.specs.Syncing.{write_kind, is_syncing}
-use Rattle.exec_request.specs.declared.way.Way.{Way}
-use Rattle.exec_request.specs.declared.write_at.WriteAtState.{WriteAtState}
-use Rattle.exec_request.specs.declared.write_at.WriteAtState.TheVariants.{Writing, WritingSync, WritingBeforeSync, Syncing}
-use Rattle.exec_request.specs.declared.way.Way.TheVariants.{Buffered, Hinted, Switched}
+use Rattle.std.{proofs.{Common.{◌≡◌, ℕ, ◌+◌, ◌-◌, Bool, true, false, not, ◌||◌, ◌&&◌, [], ◌∷◌, Option, Some, None, find, refl, sym, ap, ◌∙◌, inl, inr, arith, if◌then◌else◌, leb}, lemmas.Bool.cases_Bool}, specs.List.after_first}
+use Rattle.exec_outcomes.{specs.{declared.outcome.{Kind.{Kind, TheVariants.{Read, Direct, Write, Dsync, Many, Sync}}, OpResult.OpResult, Judged.Judged, Outcome.Outcome}, Outcomes.{Asked, Part, first_length, first_part, bytes_of, is_positive, takes_any, is_transient, refuses_hint, lasting, with_totals, results_in, completes, decides, passes_on, stops, verdict, verdict_of, outcome_by, outcome_by_stop, outcome_next}}, proofs.Runs.{one_lasts, after_only}}
+use Rattle.exec_request.specs.{Judging.{whole, judged_alone, is_enough, passes, ends}, Ways.{asked_by, is_direct, is_switched, size_for}, Syncing.{write_kind, is_syncing}, declared.{way.Way.{Way, TheVariants.{Buffered, Hinted, Switched}}, write_at.WriteAtState.{WriteAtState, TheVariants.{Writing, WritingSync, WritingBeforeSync, Syncing}}}}
 use Rattle.exec_request.specs.declared.way.Way.TheVariants as way
 
 -- so many bytes are enough where they are as many as are left

@@ -1,19 +1,8 @@
 -- Lists whose parts are written over, and copied one after another.
-use Rattle.std.proofs.Common.{◌≡◌, ℕ, ◌+◌, ◌-◌, ◌≤◌, ◌<◌, true, List, [], ◌++◌, length, take, drop, get_or, replicate, min, refl, sym, ap, ◌∙◌, arith, inl, inr, append_assoc, length-append, length-drop, length-take-le}
-use Rattle.std.specs.List.{concat, flat_map}
+use Rattle.std.{proofs.{Common.{◌≡◌, ℕ, ◌+◌, ◌-◌, ◌≤◌, ◌<◌, true, List, [], ◌++◌, length, take, drop, get_or, replicate, min, refl, sym, ap, ◌∙◌, arith, inl, inr, append_assoc, length-append, length-drop, length-take-le}, lemmas.{Bool.cases_lt, List.{append-nil, drop-drop, take-append-le, drop-append-le, take_all, drop_all, take_at, drop_more, drop-take, take-take, take_rest, take-append-drop, length-take, length-replicate, take-replicate, take_min, drop_min, Concat.{concat_is, length-flat_map, flat_map-append}, Sums.sum_by-take-le}, Slice.{take-put_mid, drop-put_mid}}, Math.Seq.{take-append-add, drop-append-add}}, specs.List.{concat, flat_map}}
+use Rattle.exec_bufs.{specs.Buffers.{Buffer, resized, total}, proofs.Poured.length-resized}
+use Rattle.exec_request.{specs.{Buffers.{is_sound, batch_of}, Bytes.{filled_at, batch_bytes}, declared.buffers.WriteBuffers.TheVariants.{Single, Vectored}}, proofs.Chunks.batch-first}
 use borrow.Rule.Slice.PartMut.{put_mid}
-use Rattle.std.proofs.lemmas.Bool.{cases_lt}
-use Rattle.std.proofs.lemmas.List.{append-nil, drop-drop, take-append-le, drop-append-le, take_all, drop_all, take_at, drop_more, drop-take, take-take, take_rest, take-append-drop, length-take, length-replicate, take-replicate, take_min, drop_min}
-use Rattle.std.proofs.lemmas.Slice.{take-put_mid, drop-put_mid}
-use Rattle.std.proofs.Math.Seq.{take-append-add, drop-append-add}
-use Rattle.std.proofs.lemmas.List.Concat.{concat_is, length-flat_map, flat_map-append}
-use Rattle.std.proofs.lemmas.List.Sums.{sum_by-take-le}
-use Rattle.exec_bufs.specs.Buffers.{Buffer, resized, total}
-use Rattle.exec_request.specs.Buffers.{is_sound, batch_of}
-use Rattle.exec_request.specs.Bytes.{filled_at, batch_bytes}
-use Rattle.exec_request.specs.declared.buffers.WriteBuffers.TheVariants.{Single, Vectored}
-use Rattle.exec_request.proofs.Chunks.{batch-first}
-use Rattle.exec_bufs.proofs.Poured.{length-resized}
 
 -- a part of a list of which the rest comes from another
 pub take-app : (n : ℕ) (xs ys : List ℕ) → take n (xs ++ ys) ≡ take n xs ++ take (n - length xs) ys

@@ -1,8 +1,7 @@
 -- The buffers of a send or a write, and how much of them has gone.
 use Rattle.std.specs.Prelude.{ℕ, Bool, ◌+◌, ◌-◌, ◌^◌, ◌==◌, ◌&&◌, ◌||◌, List, [], ◌∷◌, length, take, drop, min, nat_le, nat_lt, slice_index_or}
 use Rattle.exec_bufs.specs.Buffers.{total}
-use Rattle.exec_request.specs.declared.buffers.WriteBuffers.{WriteBuffers}
-use Rattle.exec_request.specs.declared.buffers.WriteBuffers.TheVariants.{Single, Vectored}
+use Rattle.exec_request.specs.declared.buffers.WriteBuffers.{WriteBuffers, TheVariants.{Single, Vectored}}
 
 -- the chunks, those that have gone too
 abbrev pub owners_of : WriteBuffers → List (List ℕ)

@@ -1,11 +1,7 @@
 -- The bytes that windows move.
-use Rattle.std.specs.Prelude.{ℕ, ◌+◌, List, [], ◌++◌, length, take, drop}
-use Rattle.std.specs.List.{concat}
+use Rattle.std.specs.{Prelude.{ℕ, ◌+◌, List, [], ◌++◌, length, take, drop}, List.concat}
 use Rattle.exec_bufs.specs.Buffers.{Buffer, resized}
-use Rattle.exec_request.specs.Buffers.{owners_of, moved_of, batch_of}
-use Rattle.exec_request.specs.declared.buffers.WriteBuffers.{WriteBuffers}
-use Rattle.exec_request.specs.declared.request.Request.{Request}
-use Rattle.exec_request.specs.declared.request.Request.TheVariants.{Send, Recv, ReadAt, WriteAt}
+use Rattle.exec_request.specs.{Buffers.{owners_of, moved_of, batch_of}, declared.{buffers.WriteBuffers.WriteBuffers, request.Request.{Request, TheVariants.{Send, Recv, ReadAt, WriteAt}}}}
 
 -- the next bytes of buffers that one operation takes
 abbrev pub batch_bytes : WriteBuffers → List ℕ

@@ -1,8 +1,7 @@
 -- The hint that a request asks for, and that its open may have.
 use Rattle.std.specs.Prelude.{◌≡◌, ◌⊎◌, ◌&&◌, Bool, true, false, Option, Some, None, if◌then◌else◌}
 use Rattle.exec_outcomes.specs.Accounts.{Account}
-use Rattle.exec_request.specs.declared.cache.Cache.{Cache}
-use Rattle.exec_request.specs.declared.cache.Cache.TheVariants.{Enabled, Disabled}
+use Rattle.exec_request.specs.declared.cache.Cache.{Cache, TheVariants.{Enabled, Disabled}}
 
 abbrev pub asks_hint : Cache → Bool
 asks_hint Enabled = false

@@ -1,13 +1,7 @@
 -- What a request that judges results promises.
 use Rattle.std.specs.Prelude.{◌≡◌, ℕ, Bool, false, not, ◌||◌, ◌&&◌, nat_le, List, [], ◌∷◌, ◌++◌, Option, None}
-use Rattle.exec_outcomes.specs.declared.outcome.Kind.{Kind}
-use Rattle.exec_outcomes.specs.declared.outcome.Kind.TheVariants.{Direct, Many}
-use Rattle.exec_outcomes.specs.declared.outcome.OpResult.{OpResult}
-use Rattle.exec_outcomes.specs.declared.outcome.Judged.{Judged}
-use Rattle.exec_outcomes.specs.declared.outcome.Outcome.{Outcome}
-use Rattle.exec_outcomes.specs.Outcomes.{Asked, Cursor, HasCome, outcome_of, outcome_next, cursor_next, is_transient, is_unsupported, is_positive, bytes_of, takes_any, suits_direct}
-use Rattle.exec_request.specs.declared.results.WaiterState.{WaiterState}
-use Rattle.exec_request.specs.States.{asks_cancel}
+use Rattle.exec_outcomes.specs.{declared.outcome.{Kind.{Kind, TheVariants.{Direct, Many}}, OpResult.OpResult, Judged.Judged, Outcome.Outcome}, Outcomes.{Asked, Cursor, HasCome, outcome_of, outcome_next, cursor_next, is_transient, is_unsupported, is_positive, bytes_of, takes_any, suits_direct}}
+use Rattle.exec_request.specs.{declared.results.WaiterState.WaiterState, States.asks_cancel}
 
 -- a result with the hint of its operation, and how the waiter stood
 abbrev pub judged_as : Bool → WaiterState → OpResult → Judged

@@ -2,19 +2,7 @@
 use Rattle.std.specs.Prelude.{ℕ, ◌+◌, ◌-◌, Option, Some, None}
 use Rattle.exec_bufs.specs.Buffers.{Buffer, total}
 use Rattle.exec_outcomes.specs.Outcomes.{Asked}
-use Rattle.exec_request.specs.Buffers.{length_of, moved_of}
-use Rattle.exec_request.specs.Ways.{skipped, narrowed}
-use Rattle.exec_request.specs.Views.{send_asked, recv_asked, read_asked, write_asked}
-use Rattle.exec_request.specs.Requests.{asked_of, target_of, deadline_of}
-use Rattle.exec_request.specs.declared.buffers.WriteBuffers.{WriteBuffers}
-use Rattle.exec_request.specs.declared.buffers.WriteBuffers.TheVariants.{Single, Vectored}
-use Rattle.exec_request.specs.declared.connect.SockAddr.{SockAddr}
-use Rattle.exec_request.specs.declared.send.SendRequest.{SendRequest}
-use Rattle.exec_request.specs.declared.recv.RecvRequest.{RecvRequest}
-use Rattle.exec_request.specs.declared.read_at.ReadAtRequest.{ReadAtRequest}
-use Rattle.exec_request.specs.declared.write_at.WriteAtRequest.{WriteAtRequest}
-use Rattle.exec_request.specs.declared.request.Request.{Request}
-use Rattle.exec_request.specs.declared.request.Request.TheVariants.{Send, Recv, ReadAt, WriteAt, Sync, Connect}
+use Rattle.exec_request.specs.{Buffers.{length_of, moved_of}, Ways.{skipped, narrowed}, Views.{send_asked, recv_asked, read_asked, write_asked}, Requests.{asked_of, target_of, deadline_of}, declared.{buffers.WriteBuffers.{WriteBuffers, TheVariants.{Single, Vectored}}, connect.SockAddr.SockAddr, send.SendRequest.SendRequest, recv.RecvRequest.RecvRequest, read_at.ReadAtRequest.ReadAtRequest, write_at.WriteAtRequest.WriteAtRequest, request.Request.{Request, TheVariants.{Send, Recv, ReadAt, WriteAt, Sync, Connect}}}}
 
 -- bytes of which none has gone
 abbrev pub rewound : WriteBuffers → WriteBuffers

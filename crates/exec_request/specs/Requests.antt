@@ -1,22 +1,7 @@
 -- What a request of any kind asks for, how far it has come, and what comes of it.
 use Rattle.std.specs.Prelude.{ℕ, Bool, true, false, Option, Some, None}
-use Rattle.exec_outcomes.specs.Accounts.{Account, outcome_at_grant}
-use Rattle.exec_outcomes.specs.Outcomes.{Asked, Cursor}
-use Rattle.exec_outcomes.specs.declared.outcome.Kind.TheVariants as kind
-use Rattle.exec_outcomes.specs.declared.outcome.Outcome.{Outcome}
-use Rattle.exec_request.specs.States.{Ended, received, range_read, told_by, account_by}
-use Rattle.exec_request.specs.Syncing.{write_kind, is_syncing}
-use Rattle.exec_request.specs.Ways.{narrowed}
-use Rattle.exec_request.specs.Views.{send_asked, send_cursor, send_window, recv_asked, recv_cursor, recv_window, read_asked, read_cursor, read_hinted, read_window, write_asked, write_cursor, write_hinted, write_window, sync_asked, sync_cursor, sync_window, connect_asked, connect_cursor, connect_window, poll_asked, poll_cursor, poll_window}
-use Rattle.exec_request.specs.declared.window.Window.{Window}
-use Rattle.exec_request.specs.declared.write_at.WriteAtState.{WriteAtState}
-use Rattle.exec_request.specs.declared.write_at.WriteAtState.TheVariants.{Writing}
-use Rattle.exec_request.specs.declared.output.RequestOutput.{RequestOutput}
-use Rattle.exec_request.specs.declared.output.RequestOutput.TheVariants as output
-use Rattle.exec_request.specs.declared.output.RetiredResources.{RetiredResources}
-use Rattle.exec_request.specs.declared.output.RetiredResources.TheVariants as retired
-use Rattle.exec_request.specs.declared.request.Request.{Request}
-use Rattle.exec_request.specs.declared.request.Request.TheVariants.{Send, Recv, ReadAt, WriteAt, Sync, Connect, Poll}
+use Rattle.exec_outcomes.specs.{Accounts.{Account, outcome_at_grant}, Outcomes.{Asked, Cursor}, declared.outcome.{Kind.Kind as kind, Outcome.Outcome}}
+use Rattle.exec_request.specs.{States.{Ended, received, range_read, told_by, account_by}, Syncing.{write_kind, is_syncing}, Ways.narrowed, Views.{send_asked, send_cursor, send_window, recv_asked, recv_cursor, recv_window, read_asked, read_cursor, read_hinted, read_window, write_asked, write_cursor, write_hinted, write_window, sync_asked, sync_cursor, sync_window, connect_asked, connect_cursor, connect_window, poll_asked, poll_cursor, poll_window}, declared.{window.Window.Window, write_at.WriteAtState.{WriteAtState, TheVariants.Writing}, output.{RequestOutput.{RequestOutput, RequestOutput as output}, RetiredResources.{RetiredResources, RetiredResources as retired}}, request.Request.{Request, TheVariants.{Send, Recv, ReadAt, WriteAt, Sync, Connect, Poll}}}}
 
 abbrev pub asked_of : Request → Asked
 asked_of (Send s) = send_asked s

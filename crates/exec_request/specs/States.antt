@@ -2,12 +2,8 @@
 use Rattle.std.specs.Prelude.{ℕ, Bool, true, false, [], Option, Some, None, Result, Ok, Err}
 use Rattle.exec_base.specs.declared.error.Error.{Error}
 use Rattle.exec_bufs.specs.Buffers.{Buffer}
-use Rattle.exec_outcomes.specs.Accounts.{Account, account_after, outcome_told}
-use Rattle.exec_outcomes.specs.declared.outcome.Kind.{Kind}
-use Rattle.exec_outcomes.specs.declared.outcome.Outcome.{Outcome}
-use Rattle.exec_outcomes.specs.declared.outcome.Outcome.TheVariants.{Success, Failure}
-use Rattle.exec_request.specs.declared.results.WaiterState.{WaiterState}
-use Rattle.exec_request.specs.declared.results.WaiterState.TheVariants.{Active, CancelRequested}
+use Rattle.exec_outcomes.specs.{Accounts.{Account, account_after, outcome_told}, declared.outcome.{Kind.Kind, Outcome.{Outcome, TheVariants.{Success, Failure}}}}
+use Rattle.exec_request.specs.declared.results.WaiterState.{WaiterState, TheVariants.{Active, CancelRequested}}
 
 -- cancellation was asked for
 abbrev pub asks_cancel : WaiterState → Bool

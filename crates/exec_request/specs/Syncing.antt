@@ -1,9 +1,7 @@
 -- How durable a write is, and how far.
 use Rattle.std.specs.Prelude.{Bool, true, false}
-use Rattle.exec_outcomes.specs.declared.outcome.Kind.{Kind}
-use Rattle.exec_outcomes.specs.declared.outcome.Kind.TheVariants as kind
-use Rattle.exec_request.specs.declared.write_at.WriteAtState.{WriteAtState}
-use Rattle.exec_request.specs.declared.write_at.WriteAtState.TheVariants.{Writing, WritingSync, WritingBeforeSync, Syncing}
+use Rattle.exec_outcomes.specs.declared.outcome.Kind.{Kind, Kind as kind}
+use Rattle.exec_request.specs.declared.write_at.WriteAtState.{WriteAtState, TheVariants.{Writing, WritingSync, WritingBeforeSync, Syncing}}
 
 -- the kind of a write
 abbrev pub write_kind : WriteAtState → Kind

@@ -1,24 +1,8 @@
 -- What requests ask for, how far they have come, and the windows of their next operations.
 use Rattle.std.specs.Prelude.{◌≡◌, ℕ, Bool, false, not, ◌+◌, ◌-◌, ◌%◌, ◌^◌, ◌&&◌, length, replicate, min, if◌then◌else◌}
+use Rattle.exec_outcomes.specs.{Lawful.aligned, Outcomes.{Asked, Cursor}}
+use Rattle.exec_request.specs.{Buffers.{length_of, moved_of, batch_of, chunks_of}, Hints.asks_hint, Windows.plain_window, Syncing.{write_kind, is_syncing, is_dsync}, Ways.{asked_by, is_direct, is_switched}, declared.{cache.Cache.TheVariants.Disabled, way.Way.TheVariants.Direct, send.SendRequest.SendRequest, read_at.ReadAtRequest.ReadAtRequest, recv.RecvRequest.RecvRequest, write_at.WriteAtRequest.WriteAtRequest, sync.SyncRequest.SyncRequest, connect.ConnectRequest.ConnectRequest, poll.PollRequest.PollRequest, window.{Window.Window, Opcode.Opcode as opcode}}}
 use Rattle.exec_outcomes.specs.declared.outcome.Kind.TheVariants as kind
-use Rattle.exec_outcomes.specs.Lawful.{aligned}
-use Rattle.exec_outcomes.specs.Outcomes.{Asked, Cursor}
-use Rattle.exec_request.specs.Buffers.{length_of, moved_of, batch_of, chunks_of}
-use Rattle.exec_request.specs.Hints.{asks_hint}
-use Rattle.exec_request.specs.Windows.{plain_window}
-use Rattle.exec_request.specs.Syncing.{write_kind, is_syncing, is_dsync}
-use Rattle.exec_request.specs.Ways.{asked_by, is_direct, is_switched}
-use Rattle.exec_request.specs.declared.cache.Cache.TheVariants.{Disabled}
-use Rattle.exec_request.specs.declared.way.Way.TheVariants.{Direct}
-use Rattle.exec_request.specs.declared.send.SendRequest.{SendRequest}
-use Rattle.exec_request.specs.declared.read_at.ReadAtRequest.{ReadAtRequest}
-use Rattle.exec_request.specs.declared.recv.RecvRequest.{RecvRequest}
-use Rattle.exec_request.specs.declared.write_at.WriteAtRequest.{WriteAtRequest}
-use Rattle.exec_request.specs.declared.sync.SyncRequest.{SyncRequest}
-use Rattle.exec_request.specs.declared.connect.ConnectRequest.{ConnectRequest}
-use Rattle.exec_request.specs.declared.poll.PollRequest.{PollRequest}
-use Rattle.exec_request.specs.declared.window.Window.{Window}
-use Rattle.exec_request.specs.declared.window.Opcode.TheVariants as opcode
 
 -- what moves no bytes
 abbrev pub no_bytes : Cursor

@@ -1,11 +1,9 @@
 -- How a read goes: its range of the file, and what its results count.
 use Rattle.std.specs.Prelude.{ℕ, Bool, true, false, ◌+◌, ◌-◌, take, drop}
 use Rattle.exec_bufs.specs.Buffers.{Buffer}
+use Rattle.exec_outcomes.specs.{Lawful.aligned, Outcomes.Asked}
+use Rattle.exec_request.specs.declared.way.Way.{Way, TheVariants.{Buffered, Hinted, Direct, Switched}}
 use Rattle.exec_outcomes.specs.declared.outcome.Kind.TheVariants as kind
-use Rattle.exec_outcomes.specs.Lawful.{aligned}
-use Rattle.exec_outcomes.specs.Outcomes.{Asked}
-use Rattle.exec_request.specs.declared.way.Way.{Way}
-use Rattle.exec_request.specs.declared.way.Way.TheVariants.{Buffered, Hinted, Direct, Switched}
 
 abbrev pub is_direct : Way → Bool
 is_direct (Direct skip len) = true

@@ -1,8 +1,6 @@
 -- Windows: those of requests that have no place in a file, and those that belong to no request.
 use Rattle.std.specs.Prelude.{ℕ, Bool, true, false, ◌-◌, ◌^◌}
-use Rattle.exec_request.specs.declared.window.Window.{Window}
-use Rattle.exec_request.specs.declared.window.Opcode.{Opcode}
-use Rattle.exec_request.specs.declared.window.Opcode.TheVariants.{Send, Recv, Read, Write, Cancel, Wake}
+use Rattle.exec_request.specs.declared.window.{Window.Window, Opcode.{Opcode, TheVariants.{Send, Recv, Read, Write, Cancel, Wake}}}
 
 -- an operation that has no place in a file, and a sync
 abbrev pub plain_window : Opcode → ℕ → ℕ → ℕ → Window

@@ -6,9 +6,7 @@
 
 ghost use Rattle.std.specs.Prelude.{◌≡◌, true, IsTrue, ◌+◌, ◌-◌, ◌<◌, ◌≤◌, ◌↔◌, [], length, take, drop, min, slice_index_or};
 ghost use Rattle.exec_bufs.specs.Buffers.{total};
-ghost use Rattle.exec_request.specs.Buffers.{length_of, moved_of, owners_of, is_sound, is_within, batch_of, chunks_of};
-ghost use Rattle.exec_request.specs.Bytes.{batch_bytes};
-ghost use Rattle.exec_request.specs.Kept.{rewound};
+ghost use Rattle.exec_request.specs.{Buffers.{length_of, moved_of, owners_of, is_sound, is_within, batch_of, chunks_of}, Bytes.batch_bytes, Kept.rewound};
 
 use crate::bytes::{chunk_len, copy_chunks};
 use crate::results::LARGEST_WINDOW;

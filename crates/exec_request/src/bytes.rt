@@ -2,8 +2,7 @@
 //!
 //! Whoever stands for the kernel calls these as an operation lands, and never has the memory itself.
 
-ghost use Rattle.std.specs.Prelude.{◌≡◌, ◌+◌, ◌-◌, ◌≤◌, [], ◌++◌, length, take, drop, min, replicate, slice_index_or};
-ghost use Rattle.std.specs.List.{concat};
+ghost use Rattle.std.specs.{Prelude.{◌≡◌, ◌+◌, ◌-◌, ◌≤◌, [], ◌++◌, length, take, drop, min, replicate, slice_index_or}, List.concat};
 ghost use Rattle.exec_bufs.specs.Buffers.{resized, total};
 ghost use Rattle.exec_request.specs.Bytes.{filled_at};
 

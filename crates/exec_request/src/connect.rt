@@ -4,9 +4,7 @@
 
 ghost use Rattle.std.specs.Prelude.{◌≡◌, IsTrue, false};
 ghost use Rattle.exec_outcomes.specs.Lawful.{is_lawful, window_of};
-ghost use Rattle.exec_request.specs.States.{as_answer};
-ghost use Rattle.exec_request.specs.Judging.{Judges, judged_as};
-ghost use Rattle.exec_request.specs.Views.{connect_asked, connect_cursor, connect_window};
+ghost use Rattle.exec_request.specs.{States.as_answer, Judging.{Judges, judged_as}, Views.{connect_asked, connect_cursor, connect_window}};
 
 use crate::judge::judge;
 use crate::output::{RequestOutput, RetiredResources};

@@ -1,10 +1,7 @@
 //! Worked examples of what windows and their bytes are.
 
 ghost use Rattle.std.specs.Prelude.{◌≡◌, ◌≢◌, ◌-◌, ◌^◌, [], ◌∷◌, true, false};
-ghost use Rattle.exec_request.specs.Buffers.{chunks_of, batch_of, is_sound};
-ghost use Rattle.exec_request.specs.Bytes.{batch_bytes, filled_at};
-ghost use Rattle.exec_request.specs.Kept.{rewound};
-ghost use Rattle.exec_request.specs.Windows.{plain_window, cancel_window, wake_window, most_of, moves_in, moves_out};
+ghost use Rattle.exec_request.specs.{Buffers.{chunks_of, batch_of, is_sound}, Bytes.{batch_bytes, filled_at}, Kept.rewound, Windows.{plain_window, cancel_window, wake_window, most_of, moves_in, moves_out}};
 
 use crate::buffers::WriteBuffers;
 use crate::window::Opcode;

@@ -6,10 +6,8 @@
 //! the request. Where a result leaves a request open, one whose cancellation was asked for is given up.
 
 ghost use Rattle.std.specs.Prelude.{◌≡◌, ◌&&◌, IsTrue, true, false};
-ghost use Rattle.exec_outcomes.specs.Lawful.{is_lawful};
-ghost use Rattle.exec_outcomes.specs.Outcomes.{suits_direct, takes_any, verdict_of, verdict_of_count, verdict_of_error};
-ghost use Rattle.exec_request.specs.States.{as_outcome, as_answer};
-ghost use Rattle.exec_request.specs.Judging.{judged_alone, is_heard, is_enough, passes, ends};
+ghost use Rattle.exec_outcomes.specs.{Lawful.is_lawful, Outcomes.{suits_direct, takes_any, verdict_of, verdict_of_count, verdict_of_error}};
+ghost use Rattle.exec_request.specs.{States.{as_outcome, as_answer}, Judging.{judged_alone, is_heard, is_enough, passes, ends}};
 
 use crate::results::{
     CANCELED, CONNECTED, DIRECT_ALIGN, INTERRUPTED, PENDING, UNSUPPORTED, WOULD_BLOCK, counted_by,

@@ -2,9 +2,7 @@
 
 ghost use Rattle.std.specs.Prelude.{◌≡◌, IsTrue, false};
 ghost use Rattle.exec_outcomes.specs.Lawful.{is_lawful, window_of};
-ghost use Rattle.exec_request.specs.States.{as_answer};
-ghost use Rattle.exec_request.specs.Judging.{Judges, judged_as};
-ghost use Rattle.exec_request.specs.Views.{poll_asked, poll_cursor, poll_window};
+ghost use Rattle.exec_request.specs.{States.as_answer, Judging.{Judges, judged_as}, Views.{poll_asked, poll_cursor, poll_window}};
 
 use crate::judge::judge;
 use crate::output::{RequestOutput, RetiredResources};

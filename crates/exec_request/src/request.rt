@@ -6,17 +6,8 @@
 
 ghost use Rattle.std.specs.Prelude.{◌≡◌, ◌+◌, ◌≤◌, ◌&&◌, Bool, IsTrue, true, List, length, take, drop, if◌then◌else◌};
 ghost use Rattle.exec_bufs.specs.Buffers.{resized};
-ghost use Rattle.exec_outcomes.specs.Accounts.{is_durable};
-ghost use Rattle.exec_outcomes.specs.Lawful.{is_lawful, window_of};
-ghost use Rattle.exec_outcomes.specs.Outcomes.{HasCome, is_unsupported};
-ghost use Rattle.exec_outcomes.specs.declared.outcome.Judged.{Judged};
-ghost use Rattle.exec_request.specs.Hints.{AsksOn, has_hint, without_hint};
-ghost use Rattle.exec_request.specs.Judging.{Judges, judged_as};
-ghost use Rattle.exec_request.specs.Bytes.{window_bytes, lent_of, filled_of, filled_at};
-ghost use Rattle.exec_request.specs.Kept.{kept_of, owned_by};
-ghost use Rattle.exec_request.specs.States.{as_answer};
-ghost use Rattle.exec_request.specs.Windows.{most_of, moves_in, moves_out};
-ghost use Rattle.exec_request.specs.Requests.{asked_of, cursor_of, hinted_of, deadline_of, goes_on_alone, gate_of, outcome_if_granted, window_by, record_after, output_of, retired_of};
+ghost use Rattle.exec_outcomes.specs.{Accounts.is_durable, Lawful.{is_lawful, window_of}, Outcomes.{HasCome, is_unsupported}, declared.outcome.Judged.Judged};
+ghost use Rattle.exec_request.specs.{Hints.{AsksOn, has_hint, without_hint}, Judging.{Judges, judged_as}, Bytes.{window_bytes, lent_of, filled_of, filled_at}, Kept.{kept_of, owned_by}, States.as_answer, Windows.{most_of, moves_in, moves_out}, Requests.{asked_of, cursor_of, hinted_of, deadline_of, goes_on_alone, gate_of, outcome_if_granted, window_by, record_after, output_of, retired_of}};
 
 use crate::connect::ConnectRequest;
 use crate::open_record::OpenRecord;

@@ -3,12 +3,8 @@
 //! It covers the changes that its open had seen when it was made, and never those that came later.
 
 ghost use Rattle.std.specs.Prelude.{◌≡◌, IsTrue, false, None};
-ghost use Rattle.exec_outcomes.specs.Accounts.{account_after, outcome_told};
-ghost use Rattle.exec_outcomes.specs.Lawful.{is_lawful, window_of};
-ghost use Rattle.exec_outcomes.specs.declared.outcome.Kind.TheVariants.{Sync};
-ghost use Rattle.exec_request.specs.States.{as_outcome, as_answer, result_of, told_by, account_by};
-ghost use Rattle.exec_request.specs.Judging.{Judges, judged_as};
-ghost use Rattle.exec_request.specs.Views.{sync_asked, sync_cursor, sync_window};
+ghost use Rattle.exec_outcomes.specs.{Accounts.{account_after, outcome_told}, Lawful.{is_lawful, window_of}, declared.outcome.Kind.TheVariants.Sync};
+ghost use Rattle.exec_request.specs.{States.{as_outcome, as_answer, result_of, told_by, account_by}, Judging.{Judges, judged_as}, Views.{sync_asked, sync_cursor, sync_window}};
 
 use crate::judge::judge;
 use crate::open_record::{OpenRecord, kept_as};

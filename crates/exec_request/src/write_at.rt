@@ -4,8 +4,7 @@
 //! sync begins once every byte is written, and what its results count is no bytes.
 
 ghost use Rattle.std.specs.Prelude.{◌≡◌, ◌+◌, ◌-◌, ◌<◌, ◌^◌, true};
-ghost use Rattle.exec_request.specs.Buffers.{length_of, moved_of, is_sound};
-ghost use Rattle.exec_request.specs.Syncing.{is_syncing};
+ghost use Rattle.exec_request.specs.{Buffers.{length_of, moved_of, is_sound}, Syncing.is_syncing};
 
 use crate::buffers::WriteBuffers;
 use crate::cache::Cache;

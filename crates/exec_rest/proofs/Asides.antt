@@ -1,9 +1,6 @@
 -- What parties share stays as it was, as far as waking goes, where a worker puts one thing back.
-use Rattle.std.proofs.Common.{◌≡◌, ℕ, zero, suc, Bool, List, [], ◌∷◌, ◌++◌, refl, slice_set, slice_index_or, arith}
-use Rattle.std.proofs.lemmas.List.{get_or-set_other}
-use Rattle.exec_words.specs.Idle.{Idle}
-use Rattle.exec_words.specs.Queue.{Queue}
-use Rattle.exec_words.specs.declared.word.PureWord.{PureWord}
+use Rattle.std.proofs.{Common.{◌≡◌, ℕ, zero, suc, Bool, List, [], ◌∷◌, ◌++◌, refl, slice_set, slice_index_or, arith}, lemmas.List.get_or-set_other}
+use Rattle.exec_words.specs.{Idle.Idle, Queue.Queue, declared.word.PureWord.PureWord}
 use Rattle.exec_machine.specs.declared.state.MailMessage.{MailMessage}
 use Rattle.exec_moves.specs.{State.{Things, no_word, word_of}, Pick.Queues, Send.{Mailbox, with_newcomer}, Thing.{set_queue, set_queues, set_word, set_inbox, set_mailbox, set_global, set_idle, set_barrier, set_shard, set_gate, set_answers, set_alarms}}
 use Rattle.exec_rest.proofs.Plain.{Aside}

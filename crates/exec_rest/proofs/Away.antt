@@ -1,16 +1,8 @@
 -- Away from the places to which the test for work leads: where the parts lead, a poll and the callbacks.
-use Rattle.std.proofs.Common.{◌≡◌, ℕ, ◌-◌, Bool, true, false, List, Option, Some, refl, if◌then◌else◌, arith}
-use Rattle.std.specs.Prelude.{drop}
-use Rattle.exec_machine.specs.{declared.{config.{Configuration.Configuration, ScriptWord.ScriptWord}, state.{MailMessage.MailMessage, Operation.Operation, RequestPhase.RequestPhase, Waiting.Waiting}}, Choice.Choice.Plain, Requests.{operation_asked}, Ranges.ring_size, World.{Common, Task, request_of, sleeper_of, task_of, Own as Books}, Words.{next_word}}
-use Rattle.exec_machine.specs.declared.state.Waiting.TheVariants as waiting
-use Rattle.exec_moves.specs.declared.handing.{AfterCallbacks.AfterCallbacks, AfterClaim.AfterClaim, AfterKick.AfterKick, AfterPush.AfterPush, AfterSend.AfterSend, AfterSignal.AfterSignal, Heard.Heard}
-use Rattle.exec_moves.specs.declared.place.{InCallbacks.InCallbacks, InPoll.InPoll, Place.Place}
-use Rattle.exec_moves.specs.{Callback.{Item, Item.{Answers, Completes, LetsGo, Nothing, Releases, Wakes}, after_callbacks, has_callbacks, next_callback, tells_waiter, woken_by}, Claim.{Claimed, after_claim}, Look.{after_withdrawal}, Move.{move_act, move_callbacks, move_item, move_look_at, move_poll, move_wake}, Parts.{after_kick, after_push, after_signal}, Poll.{Sight, Sight.{Asks, HearsRequest, HearsTimer, Here}, act, act_asked, act_by, after_pend, heard_by, requeued_if, resume}, Send.{Mailbox, payer_of_send, posting, posting_of, send_message, send_root}, State.{Desk, Moved, Things}, Thing.mailbox_of, Told.{has_number}}
-use Rattle.exec_moves.specs.declared.handing.Heard.TheVariants as heard
-use Rattle.exec_moves.specs.declared.idling.AfterWait.TheVariants as later
-use Rattle.exec_rest.specs.{Posted.has_tested}
-use Rattle.exec_rest.proofs.Continuing.{calm_after_leave, light_after_poll, light_after_posting, calm_after_return, light_after_send, calm_after_spawn, light_cancels_left, light_leaves_for_turn, light_next_pick, calm_to_queue, calm_light}
-use Rattle.exec_rest.proofs.{Plain.is_calm}
+use Rattle.std.{proofs.Common.{◌≡◌, ℕ, ◌-◌, Bool, true, false, List, Option, Some, refl, if◌then◌else◌, arith}, specs.Prelude.drop}
+use Rattle.exec_machine.specs.{declared.{config.{Configuration.Configuration, ScriptWord.ScriptWord}, state.{MailMessage.MailMessage, Operation.Operation, RequestPhase.RequestPhase, Waiting.{Waiting, Waiting as waiting}}}, Choice.Choice.Plain, Requests.operation_asked, Ranges.ring_size, World.{Common, Task, request_of, sleeper_of, task_of, Own as Books}, Words.next_word}
+use Rattle.exec_moves.specs.{declared.{handing.{AfterCallbacks.AfterCallbacks, AfterClaim.AfterClaim, AfterKick.AfterKick, AfterPush.AfterPush, AfterSend.AfterSend, AfterSignal.AfterSignal, Heard.{Heard, Heard as heard}}, place.{InCallbacks.InCallbacks, InPoll.InPoll, Place.Place}, idling.AfterWait.AfterWait as later}, Callback.{Item, Item.{Answers, Completes, LetsGo, Nothing, Releases, Wakes}, after_callbacks, has_callbacks, next_callback, tells_waiter, woken_by}, Claim.{Claimed, after_claim}, Look.after_withdrawal, Move.{move_act, move_callbacks, move_item, move_look_at, move_poll, move_wake}, Parts.{after_kick, after_push, after_signal}, Poll.{Sight, Sight.{Asks, HearsRequest, HearsTimer, Here}, act, act_asked, act_by, after_pend, heard_by, requeued_if, resume}, Send.{Mailbox, payer_of_send, posting, posting_of, send_message, send_root}, State.{Desk, Moved, Things}, Thing.mailbox_of, Told.has_number}
+use Rattle.exec_rest.{specs.Posted.has_tested, proofs.{Continuing.{calm_after_leave, light_after_poll, light_after_posting, calm_after_return, light_after_send, calm_after_spawn, light_cancels_left, light_leaves_for_turn, light_next_pick, calm_to_queue, calm_light}, Plain.is_calm}}
 
 -- AWAY: the place isn't one to which the test leads
 

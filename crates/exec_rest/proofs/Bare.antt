@@ -1,11 +1,8 @@
 -- Workers that are not of the pool: nothing is given to their run queues, and these stay empty.
-use Rattle.std.proofs.Common.{◌≡◌, ℕ, zero, suc, Bool, true, false, List, [], ◌∷◌, ◌++◌, map, get_or, set, replicate, refl, sym, ap, ◌∙◌, subst, inl, inr, arith}
-use Rattle.std.proofs.lemmas.{Bool.{true≢false, cases_Bool}}
-use Rattle.exec_machine.specs.{declared.{config.{Configuration.Configuration}, event.Event.Event, step.Action.Action}, Callers.{after_going_on, after_spawn_by_call, after_wake_by_call}, Choice.Choice, Deadlines.roused_at, Progress.Plan, World.{Common, Own as Books, Seat, no_seat, own_of, request_of, seat_of}}
-use Rattle.exec_machine.specs.declared.step.Action.TheVariants as action
-use Rattle.exec_moves.specs.{declared.{place.{Place.Place}}, Callback.{is_of_pool}, Move.{move}, Plays.{Playing, by_action, by_step, desk_of, first_desk, first_desks, first_playing, newcomers}, State.{Desk, Moved, Things, no_queue}}
-use Rattle.exec_rest.specs.{AtRest.{AreBare, IsBare, is_fed, is_given}, Rested.{IsLaidOut, is_in_pool, place_at}}
-use Rattle.exec_rest.proofs.{Frames.{pool_after}, BareMoves.{call_kept, put_in, wake_kept, worker_bare}, Given.{given_move}}
+use Rattle.std.proofs.{Common.{◌≡◌, ℕ, zero, suc, Bool, true, false, List, [], ◌∷◌, ◌++◌, map, get_or, set, replicate, refl, sym, ap, ◌∙◌, subst, inl, inr, arith}, lemmas.Bool.{true≢false, cases_Bool}}
+use Rattle.exec_machine.specs.{declared.{config.Configuration.Configuration, event.Event.Event, step.Action.{Action, Action as action}}, Callers.{after_going_on, after_spawn_by_call, after_wake_by_call}, Choice.Choice, Deadlines.roused_at, Progress.Plan, World.{Common, Own as Books, Seat, no_seat, own_of, request_of, seat_of}}
+use Rattle.exec_moves.specs.{declared.place.Place.Place, Callback.is_of_pool, Move.move, Plays.{Playing, by_action, by_step, desk_of, first_desk, first_desks, first_playing, newcomers}, State.{Desk, Moved, Things, no_queue}}
+use Rattle.exec_rest.{specs.{AtRest.{AreBare, IsBare, is_fed, is_given}, Rested.{IsLaidOut, is_in_pool, place_at}}, proofs.{Frames.pool_after, BareMoves.{call_kept, put_in, wake_kept, worker_bare}, Given.given_move}}
 
 -- THE FIRST STATE
 

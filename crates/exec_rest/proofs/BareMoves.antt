@@ -1,20 +1,9 @@
 -- What a move leaves of the run queues: one in which nothing is stays so, but for the own one where its worker writes that.
-use Rattle.std.proofs.Common.{◌≡◌, ℕ, zero, suc, Bool, true, false, List, [], ◌∷◌, ◌++◌, drop, get_or, set, Option, Some, None, if◌then◌else◌, refl, ap, ◌∙◌, subst, arith}
-use Rattle.std.proofs.lemmas.Bool.{true≢false}
+use Rattle.std.proofs.{Common.{◌≡◌, ℕ, zero, suc, Bool, true, false, List, [], ◌∷◌, ◌++◌, drop, get_or, set, Option, Some, None, if◌then◌else◌, refl, ap, ◌∙◌, subst, arith}, lemmas.Bool.true≢false}
 use Rattle.exec_words.specs.Queue.{Queue, claimed}
-use Rattle.exec_machine.specs.{declared.{config.{Configuration.Configuration, ScriptWord.ScriptWord}}, World.{Common, Own as Books}}
-use Rattle.exec_moves.specs.{declared.{handing.{AfterCallbacks.AfterCallbacks, AfterKick.AfterKick, AfterPop.AfterPop, AfterPush.AfterPush, AfterSend.AfterSend, AfterSignal.AfterSignal, CallPlace.CallPlace, InGlobal.InGlobal, InKick.InKick, InPop.InPop, InPush.InPush, InSignal.InSignal}, idling.{InLook.InLook, InRingWait.InRingWait, InScan.InScan, InSearch.InSearch, InWordWait.InWordWait, Stay.Stay}, place.{InPick.InPick, InPoll.InPoll, InCallbacks.InCallbacks, InLoads.InLoads, InService.InService, InMail.InMail, InClosing.InClosing, Place.Place, Round.Round, Service.Service}}, Call.CallDesk, Move.{move, move_act, move_at, move_callbacks, move_closing, move_global, move_kick, move_loads, move_look, move_look_at, move_mail, move_pick, move_poll, move_pop, move_push, move_ring_wait, move_scan, move_search, move_service, move_signal, move_submit, move_wake, move_word_wait}, MoveOfCaller.{call_on, call_wake}, Poll.{Sight}, State.{Desk, Moved, Own, Things, no_queue, queue_of}, Submit.{Due, due_next}, Thing.{aside, set_queue}}
-use Rattle.exec_moves.specs.declared.handing.InGlobal.TheVariants as global
-use Rattle.exec_moves.specs.declared.handing.InKick.TheVariants as kick
-use Rattle.exec_moves.specs.declared.handing.InSignal.TheVariants as signals
-use Rattle.exec_moves.specs.declared.idling.InRingWait.TheVariants as ring
-use Rattle.exec_moves.specs.declared.idling.InSearch.TheVariants as search
-use Rattle.exec_moves.specs.declared.idling.InWordWait.TheVariants as word
-use Rattle.exec_moves.specs.declared.place.InService.TheVariants as step
-use Rattle.exec_moves.specs.declared.place.InMail.TheVariants as mail
-use Rattle.exec_moves.specs.declared.place.InClosing.TheVariants as closing
-use Rattle.exec_moves.specs.declared.place.Place.TheVariants as at
-use Rattle.exec_rest.specs.{AtRest.{IsBare, is_fed, is_given}}
+use Rattle.exec_machine.specs.{declared.config.{Configuration.Configuration, ScriptWord.ScriptWord}, World.{Common, Own as Books}}
+use Rattle.exec_moves.specs.{declared.{handing.{AfterCallbacks.AfterCallbacks, AfterKick.AfterKick, AfterPop.AfterPop, AfterPush.AfterPush, AfterSend.AfterSend, AfterSignal.AfterSignal, CallPlace.CallPlace, InGlobal.{InGlobal, InGlobal as global}, InKick.{InKick, InKick as kick}, InPop.InPop, InPush.InPush, InSignal.{InSignal, InSignal as signals}}, idling.{InLook.InLook, InRingWait.{InRingWait, InRingWait as ring}, InScan.InScan, InSearch.{InSearch, InSearch as search}, InWordWait.{InWordWait, InWordWait as word}, Stay.Stay}, place.{InPick.InPick, InPoll.InPoll, InCallbacks.InCallbacks, InLoads.InLoads, InService.{InService, InService as step}, InMail.{InMail, InMail as mail}, InClosing.{InClosing, InClosing as closing}, Place.{Place, Place as at}, Round.Round, Service.Service}}, Call.CallDesk, Move.{move, move_act, move_at, move_callbacks, move_closing, move_global, move_kick, move_loads, move_look, move_look_at, move_mail, move_pick, move_poll, move_pop, move_push, move_ring_wait, move_scan, move_search, move_service, move_signal, move_submit, move_wake, move_word_wait}, MoveOfCaller.{call_on, call_wake}, Poll.Sight, State.{Desk, Moved, Own, Things, no_queue, queue_of}, Submit.{Due, due_next}, Thing.{aside, set_queue}}
+use Rattle.exec_rest.specs.AtRest.{IsBare, is_fed, is_given}
 
 -- A RUN QUEUE PUT BACK
 

@@ -1,16 +1,10 @@
 -- The step of an outside caller keeps what holds of each worker.
-use Rattle.std.proofs.Common.{◌≡◌, ◌≢◌, ℕ, zero, suc, ◌<◌, Bool, true, false, ◌&&◌, ◌||◌, List, [], ◌∷◌, length, get_or, slice_set, Some, refl, sym, ap, ◌∙◌, subst, inl, inr, arith}
-use Rattle.std.proofs.lemmas.Bool.{true≢false, false≢true, cases_Bool, or_cases, not-true}
-use Rattle.std.proofs.lemmas.List.{get_or-set_same, get_or-set_other}
-use Rattle.std.specs.Prelude.{◌⊎◌, is_some, not}
+use Rattle.std.{proofs.{Common.{◌≡◌, ◌≢◌, ℕ, zero, suc, ◌<◌, Bool, true, false, ◌&&◌, ◌||◌, List, [], ◌∷◌, length, get_or, slice_set, Some, refl, sym, ap, ◌∙◌, subst, inl, inr, arith}, lemmas.{Bool.{true≢false, false≢true, cases_Bool, or_cases, not-true}, List.{get_or-set_same, get_or-set_other}}}, specs.Prelude.{◌⊎◌, is_some, not}}
+use Rattle.exec_words.specs.{Word.is_armed, declared.word.WaitTarget.WaitTarget as target}
+use Rattle.exec_machine.specs.{declared.{config.Configuration.Configuration, event.Event.TheVariants.Rouse}, Callers.may_go_on, Tests.{has_ended, is_awake, is_empty}, World.{Common, Seat, no_seat, seat_of}}
+use Rattle.exec_moves.specs.{declared.{handing.CallPlace.CallPlace, idling.InRingWait.InRingWait, place.Place.Place}, Call.{CallDesk, Called, no_call}, Claim.is_ring, Plays.{Playing, caller_of, first_desk}, State.{Desk, Things, WakePoll, no_queue, raised, word_of, wake_poll_of}}
+use Rattle.exec_rest.{specs.{Places.{Raising, call_owes, call_raises, call_signals, has_looked, is_abed, is_in_call, is_published, is_to_enter, is_to_sleep_on_ring, is_withdrawing, owes, raises, signals, waits_on}, Rested.{IsLaidOut, IsOwed, IsRaised, IsRestful, IsSignalled, Someone, Someone.{Worker, Caller}, has_bit, is_in_pool, is_latched, is_told, place_at, sleeps}}, proofs.{CallHeeds.CallHeeds, CallSeats.{Halved, Seated}}}
 pub use Rattle.std.proofs.lemmas.Bool.{cases_eq}
-use Rattle.exec_words.specs.{Word.is_armed}
-use Rattle.exec_words.specs.declared.word.WaitTarget.TheVariants as target
-use Rattle.exec_machine.specs.{declared.{config.Configuration.Configuration, event.Event.TheVariants.{Rouse}}, Callers.may_go_on, Tests.{has_ended, is_awake, is_empty}, World.{Common, Seat, no_seat, seat_of}}
-use Rattle.exec_moves.specs.{declared.{handing.CallPlace.CallPlace, idling.{InRingWait.InRingWait}, place.Place.Place}, Call.{CallDesk, Called, no_call}, Claim.is_ring, Plays.{Playing, caller_of, first_desk}, State.{Desk, Things, WakePoll, no_queue, raised, word_of, wake_poll_of}}
-use Rattle.exec_rest.specs.Places.{Raising, call_owes, call_raises, call_signals, has_looked, is_abed, is_in_call, is_published, is_to_enter, is_to_sleep_on_ring, is_withdrawing, owes, raises, signals, waits_on}
-use Rattle.exec_rest.specs.Rested.{IsLaidOut, IsOwed, IsRaised, IsRestful, IsSignalled, Someone, Someone.{Worker, Caller}, has_bit, is_in_pool, is_latched, is_told, place_at, sleeps}
-use Rattle.exec_rest.proofs.{CallHeeds.CallHeeds, CallSeats.{Halved, Seated}}
 
 -- PLACES
 

@@ -1,12 +1,7 @@
 -- What the move of an outside caller does as far as waking goes, and the moves that do none of it.
-use Rattle.std.proofs.Common.{◌≡◌, ℕ, ◌<◌, Bool, true, false, List, [], length, set, get_or, Some, None, sym, ◌∙◌, inl, arith}
-use Rattle.std.proofs.lemmas.Bool.{false≢true, eqb-true, eqb-false, ltb-true, ltb-false}
-use Rattle.std.proofs.lemmas.List.{get_or-set_other, set_past}
-use Rattle.std.proofs.lemmas.{Grind.{get_or-set_at}}
-use Rattle.std.specs.Prelude.{◌⊎◌}
-use Rattle.exec_words.specs.Idle.{is_in}
-use Rattle.exec_words.specs.declared.word.WaitTarget.TheVariants as target
-use Rattle.exec_machine.specs.{declared.event.Event.{TheVariants.{Rouse}}, Tests.{is_awake}, World.{Common, seat_of}}
+use Rattle.std.{proofs.{Common.{◌≡◌, ℕ, ◌<◌, Bool, true, false, List, [], length, set, get_or, Some, None, sym, ◌∙◌, inl, arith}, lemmas.{Bool.{false≢true, eqb-true, eqb-false, ltb-true, ltb-false}, List.{get_or-set_other, set_past}, Grind.get_or-set_at}}, specs.Prelude.◌⊎◌}
+use Rattle.exec_words.specs.{Idle.is_in, declared.word.WaitTarget.WaitTarget as target}
+use Rattle.exec_machine.specs.{declared.event.Event.TheVariants.Rouse, Tests.is_awake, World.{Common, seat_of}}
 use Rattle.exec_moves.specs.{declared.handing.CallPlace.CallPlace, Call.{CallDesk, Called}, Claim.is_ring, State.{Things, word_of, wake_poll_of, raised}}
 use Rattle.exec_rest.specs.Places.{call_owes, call_raises, call_signals}
 

@@ -1,19 +1,10 @@
 -- The steps of outside callers leave no message unheard: the first one of a batch publishes that, and is followed by a signal where
 -- its worker waits and nobody has signalled it.
-use Rattle.std.proofs.Common.{◌≡◌, ℕ, ◌<◌, Bool, true, false, List, [], length, get_or, Option, Some, None, refl, sym, ap, ◌∙◌, subst, inl, inr, arith}
-use Rattle.std.proofs.lemmas.Bool.{false≢true, and_parts, ltb-true, ltb-false, or_cases}
-use Rattle.std.proofs.lemmas.List.{get_or-set_other, get_or-set_same, set_past}
-use Rattle.std.specs.Prelude.{◌⊎◌, nat_lt}
-use Rattle.exec_words.specs.{Word.{is_armed}}
-use Rattle.exec_words.specs.declared.word.WaitTarget.TheVariants as target
-use Rattle.exec_machine.specs.{declared.{config.Configuration.Configuration, state.MailMessage.{MailMessage, TheVariants.Root}, step.Action.Action}, Callers.{after_going_on, after_spawn_by_call, after_wake_by_call, half_done, is_enabled, may_call}, Choice.{Choice, Choice.{Posts}, Payer.ByCall}, World.{Common, task_of}}
-use Rattle.exec_machine.specs.declared.step.Action.TheVariants as action
-use Rattle.exec_moves.specs.declared.{handing.CallPlace.CallPlace, place.Place.Place}
-use Rattle.exec_moves.specs.declared.handing.CallPlace.TheVariants as call
-use Rattle.exec_moves.specs.declared.handing.InSignal.TheVariants as signal
-use Rattle.exec_moves.specs.{Call.{CallDesk, Called, after_posting}, MoveOfCaller.{call_on, call_spawn, call_wake}, Plays.{Playing, by_action, caller_of, desk_of, first_desk}, Send.{Mailbox, is_left_out, posting, posting_of}, State.{Things, inbox_of, no_word, word_of}, Thing.{mailbox_of, set_mailbox}}
-use Rattle.exec_rest.specs.{Places.{call_signals, is_to_enter, is_to_sleep_on_ring, signals, waits_on}, Posted.{IsNumbered, IsPosted, IsTold, is_early}, Rested.{IsLaidOut, IsRestful, place_at, sleeps}}
-use Rattle.exec_rest.proofs.{CallFacts.{abed_armed, desk_there, enters_ring, next, now, cases_eq, sleeps_on_ring, slept, still}, CallHeeds.{CallHeeds, set_at}, CallMoves.{call_heeds, spawn_heeds, wake_heeds}, CallSeats.{Halved, Seated, begins_half, goes_half, going_seated, spawn_begun, wake_begun}, Calls.{at_nothing, is_call}}
+use Rattle.std.{proofs.{Common.{◌≡◌, ℕ, ◌<◌, Bool, true, false, List, [], length, get_or, Option, Some, None, refl, sym, ap, ◌∙◌, subst, inl, inr, arith}, lemmas.{Bool.{false≢true, and_parts, ltb-true, ltb-false, or_cases}, List.{get_or-set_other, get_or-set_same, set_past}}}, specs.Prelude.{◌⊎◌, nat_lt}}
+use Rattle.exec_words.specs.{Word.is_armed, declared.word.WaitTarget.WaitTarget as target}
+use Rattle.exec_machine.specs.{declared.{config.Configuration.Configuration, state.MailMessage.{MailMessage, TheVariants.Root}, step.Action.{Action, Action as action}}, Callers.{after_going_on, after_spawn_by_call, after_wake_by_call, half_done, is_enabled, may_call}, Choice.{Choice, Choice.Posts, Payer.ByCall}, World.{Common, task_of}}
+use Rattle.exec_moves.specs.{declared.{handing.{CallPlace.{CallPlace, CallPlace as call}, InSignal.InSignal as signal}, place.Place.Place}, Call.{CallDesk, Called, after_posting}, MoveOfCaller.{call_on, call_spawn, call_wake}, Plays.{Playing, by_action, caller_of, desk_of, first_desk}, Send.{Mailbox, is_left_out, posting, posting_of}, State.{Things, inbox_of, no_word, word_of}, Thing.{mailbox_of, set_mailbox}}
+use Rattle.exec_rest.{specs.{Places.{call_signals, is_to_enter, is_to_sleep_on_ring, signals, waits_on}, Posted.{IsNumbered, IsPosted, IsTold, is_early}, Rested.{IsLaidOut, IsRestful, place_at, sleeps}}, proofs.{CallFacts.{abed_armed, desk_there, enters_ring, next, now, cases_eq, sleeps_on_ring, slept, still}, CallHeeds.{CallHeeds, set_at}, CallMoves.{call_heeds, spawn_heeds, wake_heeds}, CallSeats.{Halved, Seated, begins_half, goes_half, going_seated, spawn_begun, wake_begun}, Calls.{at_nothing, is_call}}}
 
 -- A MAILBOX before and after a message was sent to it, where it is asked for a signal or not
 

@@ -1,19 +1,10 @@
 -- Each move of an outside caller, as far as waking goes.
-use Rattle.std.proofs.Common.{◌≡◌, ℕ, Bool, true, false, List, set, get_or, Option, Some, None, unwrap_or, refl, ap, inl, inr, arith}
-use Rattle.std.proofs.lemmas.Bool.{true≢false, false≢true, ltb-true, ltb-false}
-use Rattle.std.proofs.lemmas.List.{get_or-set_same, get_or_past}
-use Rattle.std.proofs.lemmas.{Grind.{get_or-set_at}, List.Quantifiers.{position-Some}, List.Sums.{fails_before_first}, Option.{none-some}}
-use Rattle.std.specs.Prelude.{◌⊎◌}
-use Rattle.exec_words.specs.{declared.{idle.WorkerSet.WorkerSet, word.PureWord.PureWord}, Idle.{Idle, is_in, lowest_of}, Word.{asks_signal}}
+use Rattle.std.{proofs.{Common.{◌≡◌, ℕ, Bool, true, false, List, set, get_or, Option, Some, None, unwrap_or, refl, ap, inl, inr, arith}, lemmas.{Bool.{true≢false, false≢true, ltb-true, ltb-false}, List.{get_or-set_same, get_or_past, Quantifiers.position-Some, Sums.fails_before_first}, Grind.get_or-set_at, Option.none-some}}, specs.Prelude.◌⊎◌}
+use Rattle.exec_words.specs.{declared.{idle.WorkerSet.WorkerSet, word.PureWord.PureWord}, Idle.{Idle, is_in, lowest_of}, Word.asks_signal}
+use Rattle.exec_machine.specs.{declared.{config.Configuration.Configuration, event.Event.TheVariants.Rouse}, Choice.Payer.ByCall, Tests.is_awake, World.{Common, seat_of}}
+use Rattle.exec_moves.specs.{declared.handing.{CallPlace.{CallPlace, CallPlace as call}, InGlobal.{InGlobal, InGlobal as global}, InSignal.{InSignal, InSignal as signals}}, Call.{CallDesk, Called, after_claim, goes_on}, Claim.{Claimed, Claimed.{Worker, Again, Nobody}, claimed_if, idle_after, rousing, same_bools, set_of}, Global.has_any, MoveOfCaller.{call_global, call_on, call_signal, call_spawn, call_wake}, Send.{Mailbox, posting}, State.{Things, no_word, word_of}, Thing.{call_puts, mailbox_of, set_idle, set_mailbox}}
+use Rattle.exec_rest.{specs.Places.{Raising, call_owes, call_raises, call_signals}, proofs.CallHeeds.{CallAside, CallHeeds, plain_call, set_at}}
 use Rattle.exec_words.specs.declared.word.WaitTarget.TheVariants as target
-use Rattle.exec_machine.specs.{declared.{config.Configuration.Configuration, event.Event.{TheVariants.{Rouse}}}, Choice.{Payer.ByCall}, Tests.{is_awake}, World.{Common, seat_of}}
-use Rattle.exec_moves.specs.declared.{handing.{CallPlace.CallPlace, InGlobal.InGlobal, InSignal.InSignal}}
-use Rattle.exec_moves.specs.declared.handing.CallPlace.TheVariants as call
-use Rattle.exec_moves.specs.declared.handing.InGlobal.TheVariants as global
-use Rattle.exec_moves.specs.declared.handing.InSignal.TheVariants as signals
-use Rattle.exec_moves.specs.{Call.{CallDesk, Called, after_claim, goes_on}, Claim.{Claimed, Claimed.{Worker, Again, Nobody}, claimed_if, idle_after, rousing, same_bools, set_of}, Global.{has_any}, MoveOfCaller.{call_global, call_on, call_signal, call_spawn, call_wake}, Send.{Mailbox, posting}, State.{Things, no_word, word_of}, Thing.{call_puts, mailbox_of, set_idle, set_mailbox}}
-use Rattle.exec_rest.specs.Places.{Raising, call_owes, call_raises, call_signals}
-use Rattle.exec_rest.proofs.CallHeeds.{CallAside, CallHeeds, plain_call, set_at}
 
 nothing_new : (x : Things) → CallAside x x
 nothing_new x = record { bits = refl; targets = λ j. refl; latches = λ j. refl; polls = refl; queues = refl }

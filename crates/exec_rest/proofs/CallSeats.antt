@@ -1,15 +1,8 @@
 -- What the event of an outside caller leaves of seats and callers.
-use Rattle.std.proofs.Common.{◌≡◌, ◌≢◌, ℕ, zero, suc, ◌<◌, Bool, true, false, ◌&&◌, List, [], ◌∷◌, length, set, get_or, Option, if◌then◌else◌, refl, sym, ap, ◌∙◌, arith}
-use Rattle.std.proofs.lemmas.Bool.{true≢false, false≢true}
-use Rattle.std.proofs.lemmas.List.{get_or-set_same, get_or-set_other}
-use Rattle.std.specs.Prelude.{not}
-use Rattle.exec_machine.specs.{declared.{event.Event.Event, state.{Call.Call, MailMessage.{MailMessage}, Rest.TheVariants.Awake}}, Callers.{after_going_on, after_spawn_by_call, after_wake_by_call, half_done, is_half_done, may_call, may_go_on}, Choice.{Choice}, Mail.{after_post, is_left_out, is_root_message, posted}, Tests.{is_awake, set_seat}, World.{Common, Seat, no_seat, seat_of}}
-use Rattle.exec_machine.specs.declared.event.Event.TheVariants as event
-use Rattle.exec_machine.specs.declared.state.Call.TheVariants as calls
-use Rattle.exec_moves.specs.declared.handing.{CallPlace.CallPlace}
-use Rattle.exec_moves.specs.{Call.CallDesk, MoveOfCaller.{call_on, call_wake}, Send.{told_of_spawn}, State.Things}
-use Rattle.exec_rest.specs.Places.{is_in_call}
-use Rattle.exec_rest.proofs.CallHeeds.{set_at}
+use Rattle.std.{proofs.{Common.{◌≡◌, ◌≢◌, ℕ, zero, suc, ◌<◌, Bool, true, false, ◌&&◌, List, [], ◌∷◌, length, set, get_or, Option, if◌then◌else◌, refl, sym, ap, ◌∙◌, arith}, lemmas.{Bool.{true≢false, false≢true}, List.{get_or-set_same, get_or-set_other}}}, specs.Prelude.not}
+use Rattle.exec_machine.specs.{declared.{event.Event.{Event, Event as event}, state.{Call.{Call, Call as calls}, MailMessage.MailMessage, Rest.TheVariants.Awake}}, Callers.{after_going_on, after_spawn_by_call, after_wake_by_call, half_done, is_half_done, may_call, may_go_on}, Choice.Choice, Mail.{after_post, is_left_out, is_root_message, posted}, Tests.{is_awake, set_seat}, World.{Common, Seat, no_seat, seat_of}}
+use Rattle.exec_moves.specs.{declared.handing.CallPlace.CallPlace, Call.CallDesk, MoveOfCaller.{call_on, call_wake}, Send.told_of_spawn, State.Things}
+use Rattle.exec_rest.{specs.Places.is_in_call, proofs.CallHeeds.set_at}
 
 abbrev is_rouse : Event → Bool
 is_rouse (event.Rouse other) = true

@@ -1,14 +1,8 @@
 -- The steps of outside callers keep what holds.
-use Rattle.std.proofs.Common.{◌≡◌, ℕ, Bool, true, false, length, refl, arith}
-use Rattle.std.proofs.lemmas.Bool.{true≢false, false≢true, and_parts, cases_Bool}
-use Rattle.std.specs.Prelude.{nat_lt}
-use Rattle.exec_machine.specs.{declared.{config.Configuration.Configuration, step.Action.Action}, Callers.{after_going_on, after_spawn_by_call, after_wake_by_call, half_done, is_enabled, may_call}, World.{Common, task_of}}
-use Rattle.exec_machine.specs.declared.step.Action.TheVariants as action
-use Rattle.exec_moves.specs.declared.handing.CallPlace.{CallPlace}
-use Rattle.exec_moves.specs.declared.handing.CallPlace.TheVariants as call
-use Rattle.exec_moves.specs.{MoveOfCaller.{call_on, call_spawn, call_wake}, Plays.{Playing, by_action, caller_of}}
-use Rattle.exec_rest.specs.{Places.is_in_call, Rested.{IsLaidOut, IsRestful}}
-use Rattle.exec_rest.proofs.{CallFacts.restful, CallMoves.{call_heeds, spawn_heeds, wake_heeds}, CallSeats.{begins_half, free_now, goes_half, going_seated, spawn_begun, wake_begun}}
+use Rattle.std.{proofs.{Common.{◌≡◌, ℕ, Bool, true, false, length, refl, arith}, lemmas.Bool.{true≢false, false≢true, and_parts, cases_Bool}}, specs.Prelude.nat_lt}
+use Rattle.exec_machine.specs.{declared.{config.Configuration.Configuration, step.Action.{Action, Action as action}}, Callers.{after_going_on, after_spawn_by_call, after_wake_by_call, half_done, is_enabled, may_call}, World.{Common, task_of}}
+use Rattle.exec_moves.specs.{declared.handing.CallPlace.{CallPlace, CallPlace as call}, MoveOfCaller.{call_on, call_spawn, call_wake}, Plays.{Playing, by_action, caller_of}}
+use Rattle.exec_rest.{specs.{Places.is_in_call, Rested.{IsLaidOut, IsRestful}}, proofs.{CallFacts.restful, CallMoves.{call_heeds, spawn_heeds, wake_heeds}, CallSeats.{begins_half, free_now, goes_half, going_seated, spawn_begun, wake_begun}}}
 
 -- an action of an outside caller
 abbrev pub is_call : Action → Bool

@@ -1,18 +1,9 @@
 -- What an exchange, a latch and a raise do to the idle set, a wake word and a wake poll.
-use Rattle.std.proofs.Common.{◌≡◌, ℕ, zero, suc, ◌<◌, Bool, true, false, List, ◌∷◌, length, nat_lt, Option, Some, None, refl, subst, arith, []}
-use Rattle.std.proofs.lemmas.Bool.{true≢false, false≢true, ltb-true, ltb-false, lt-ltb, le-ltb}
-use Rattle.std.proofs.lemmas.List.{get_or-set_same}
-use Rattle.std.specs.List.{position_or_len}
-use Rattle.std.specs.Prelude.{◌⊎◌}
-use Rattle.exec_words.specs.Idle.{is_in, lowest_of}
-use Rattle.exec_words.specs.Word.{asks_signal}
-use Rattle.exec_words.specs.declared.word.{PureWord.{PureWord}}
-use Rattle.exec_words.specs.declared.word.WaitTarget.TheVariants as target
-use Rattle.exec_machine.specs.{declared.event.Event.{TheVariants.{Rouse, Sleep}}, Tests.{is_awake}, World.{Common, seat_of}}
+use Rattle.std.{proofs.{Common.{◌≡◌, ℕ, zero, suc, ◌<◌, Bool, true, false, List, ◌∷◌, length, nat_lt, Option, Some, None, refl, subst, arith, []}, lemmas.{Bool.{true≢false, false≢true, ltb-true, ltb-false, lt-ltb, le-ltb}, List.get_or-set_same}}, specs.{List.position_or_len, Prelude.◌⊎◌}}
+use Rattle.exec_words.specs.{Idle.{is_in, lowest_of}, Word.asks_signal, declared.word.{PureWord.PureWord, WaitTarget.WaitTarget as target}}
+use Rattle.exec_machine.specs.{declared.event.Event.TheVariants.{Rouse, Sleep}, Tests.is_awake, World.{Common, seat_of}}
 use Rattle.exec_moves.specs.{Claim.{is_ring, latched, raised_if}, State.{Desk, Moved, Things, WakePoll, word_of, wake_poll_of, raised}, Thing.{set_word, set_wake_poll}}
-use Rattle.exec_rest.specs.Places.{raises, signals, waits_on}
-use Rattle.exec_rest.proofs.Continuing.{Nearly}
-use Rattle.exec_rest.proofs.Sides.{Keeps, OfRings, OfWords, is_unreaped, keeps, near_rings, put_cases, some_none, unreaped}
+use Rattle.exec_rest.{specs.Places.{raises, signals, waits_on}, proofs.{Continuing.Nearly, Sides.{Keeps, OfRings, OfWords, is_unreaped, keeps, near_rings, put_cases, some_none, unreaped}}}
 
 -- THE IDLE SET
 

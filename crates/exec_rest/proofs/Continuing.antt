@@ -1,17 +1,9 @@
 -- Where the parts lead: to places at which nothing is known of a worker, but for what follows the callbacks.
-use Rattle.std.proofs.Common.{◌≡◌, ℕ, Bool, true, false, List, Option, refl, ◌==◌, ◌&&◌, ◌||◌, if◌then◌else◌, arith}
-use Rattle.std.specs.Prelude.{nat_lt, nat_le, not}
-use Rattle.exec_words.specs.declared.head.{Fit.Fit, Head.Head}
-use Rattle.exec_words.specs.declared.word.WaitTarget.TheVariants as target
+use Rattle.std.{proofs.Common.{◌≡◌, ℕ, Bool, true, false, List, Option, refl, ◌==◌, ◌&&◌, ◌||◌, if◌then◌else◌, arith}, specs.Prelude.{nat_lt, nat_le, not}}
+use Rattle.exec_words.specs.declared.{head.{Fit.Fit, Head.Head}, word.WaitTarget.WaitTarget as target}
 use Rattle.exec_machine.specs.{declared.{config.Configuration.Configuration, state.{Letter.Letter, MailMessage.MailMessage}}, Tests.is_empty, World.{Common, Own as Books}}
-use Rattle.exec_moves.specs.{declared.{handing.{AfterCallbacks.AfterCallbacks, AfterCancels.AfterCancels, AfterKick.AfterKick, AfterLeave.AfterLeave, AfterPop.AfterPop, AfterPush.AfterPush, AfterSend.AfterSend, AfterSignal.AfterSignal, First.First, InSignal.InSignal}, place.{AfterService.AfterService, InClosing.InClosing, InPoll.InPoll, InService.InService, Place.Place}}, Callback.{after_callbacks, has_callbacks, has_requests, is_of_pool, next_callback, to_queue}, Close.{after_close, after_letting_go}, Load.{has_submissions, leaves_for_turn, next_turn}, Mail.{after_message}, Parts.{after_cancels, after_kick, after_leave, after_poll, after_push, after_return, after_send, after_signal, cancels_left, first_pop, has_others, next_pick, polls, tells_from}, Pick.{after_empty_look, first_pick}, Poll.after_end, Pop.{after_empty_pop, after_pop, judge_pop}, Push.{after_fit, after_store}, Send.{after_posting, after_spawn}, Serve.after_service, State.Desk}
-use Rattle.exec_moves.specs.declared.handing.AfterClaim.TheVariants as claim
-use Rattle.exec_moves.specs.declared.handing.AfterKick.TheVariants as kick
-use Rattle.exec_moves.specs.declared.handing.AfterPop.TheVariants as pop
-use Rattle.exec_moves.specs.declared.handing.AfterPush.TheVariants as push
-use Rattle.exec_moves.specs.declared.handing.AfterSignal.TheVariants as signal
-use Rattle.exec_rest.specs.Places.{asked_for_poll, has_looked, is_dry, is_pooled, is_published, is_to_enter, is_to_sleep_on_ring, waits_on}
-use Rattle.exec_rest.proofs.Plain.{is_calm}
+use Rattle.exec_moves.specs.{declared.{handing.{AfterCallbacks.AfterCallbacks, AfterCancels.AfterCancels, AfterKick.{AfterKick, AfterKick as kick}, AfterLeave.AfterLeave, AfterPop.{AfterPop, AfterPop as pop}, AfterPush.{AfterPush, AfterPush as push}, AfterSend.AfterSend, AfterSignal.{AfterSignal, AfterSignal as signal}, First.First, InSignal.InSignal, AfterClaim.AfterClaim as claim}, place.{AfterService.AfterService, InClosing.InClosing, InPoll.InPoll, InService.InService, Place.Place}}, Callback.{after_callbacks, has_callbacks, has_requests, is_of_pool, next_callback, to_queue}, Close.{after_close, after_letting_go}, Load.{has_submissions, leaves_for_turn, next_turn}, Mail.after_message, Parts.{after_cancels, after_kick, after_leave, after_poll, after_push, after_return, after_send, after_signal, cancels_left, first_pop, has_others, next_pick, polls, tells_from}, Pick.{after_empty_look, first_pick}, Poll.after_end, Pop.{after_empty_pop, after_pop, judge_pop}, Push.{after_fit, after_store}, Send.{after_posting, after_spawn}, Serve.after_service, State.Desk}
+use Rattle.exec_rest.{specs.Places.{asked_for_poll, has_looked, is_dry, is_pooled, is_published, is_to_enter, is_to_sleep_on_ring, waits_on}, proofs.Plain.is_calm}
 
 -- TO LIGHT PLACES: nothing is known of a worker there, nor is a task given to its run queue, and it is not at its end; a service
 -- is ahead, of which nothing is done yet, before it may sleep.

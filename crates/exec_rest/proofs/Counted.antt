@@ -1,11 +1,7 @@
 -- How many batches of messages a worker took stays as it was: by what it tells, by a poll, and by the callbacks.
-use Rattle.std.proofs.Common.{◌≡◌, ℕ, Bool, ◌==◌, List, [], ◌∷◌, Option, Some, refl, ◌∙◌, if◌then◌else◌, arith}
-use Rattle.std.specs.Prelude.{not}
-use Rattle.exec_machine.specs.{declared.{config.{Configuration.Configuration, ScriptWord.ScriptWord}, state.{Operation.Operation, Request.Request, RequestPhase.RequestPhase, Sleeper.Sleeper, Waiting.Waiting}}, Requests.{operation_asked}, Tests.{is_applied}, World.{Common, Task, request_of, Own as Books}, Words.{next_word}}
-use Rattle.exec_machine.specs.declared.state.Waiting.TheVariants as waiting
-use Rattle.exec_moves.specs.declared.handing.{AfterCallbacks.AfterCallbacks, AfterSend.AfterSend}
-use Rattle.exec_moves.specs.declared.place.{InCallbacks.InCallbacks, InPoll.InPoll}
-use Rattle.exec_moves.specs.{Move.{move_act, move_callbacks, move_look_at, move_poll, move_wake}, Poll.{Sight, act, act_asked, act_by, after_pend, await, drop_newest, requeued_if, resume, sleep_for}, State.{Desk, Moved, Things}, Slots.is_in_slots, Told.{lets_go_all, lets_go_request, lets_go_requests, lets_go_sleep, told_if_ended, told_of_cancel, told_of_drop, told_of_end, told_of_fire, turned_away, woken_where_awaited}}
+use Rattle.std.{proofs.Common.{◌≡◌, ℕ, Bool, ◌==◌, List, [], ◌∷◌, Option, Some, refl, ◌∙◌, if◌then◌else◌, arith}, specs.Prelude.not}
+use Rattle.exec_machine.specs.{declared.{config.{Configuration.Configuration, ScriptWord.ScriptWord}, state.{Operation.Operation, Request.Request, RequestPhase.RequestPhase, Sleeper.Sleeper, Waiting.{Waiting, Waiting as waiting}}}, Requests.operation_asked, Tests.is_applied, World.{Common, Task, request_of, Own as Books}, Words.next_word}
+use Rattle.exec_moves.specs.{declared.{handing.{AfterCallbacks.AfterCallbacks, AfterSend.AfterSend}, place.{InCallbacks.InCallbacks, InPoll.InPoll}}, Move.{move_act, move_callbacks, move_look_at, move_poll, move_wake}, Poll.{Sight, act, act_asked, act_by, after_pend, await, drop_newest, requeued_if, resume, sleep_for}, State.{Desk, Moved, Things}, Slots.is_in_slots, Told.{lets_go_all, lets_go_request, lets_go_requests, lets_go_sleep, told_if_ended, told_of_cancel, told_of_drop, told_of_end, told_of_fire, woken_where_awaited}}
 
 -- BY A TEST, this or that: of two desks, and of two moves
 
@@ -26,9 +22,6 @@ request_ended r it d = kept_if (not it.observed) _ _ refl (kept_if (is_applied i
 
 pub if_ended : {X : Type 0} (how : Option X) (r : ℕ) (it : Request) (d : Desk) → (told_if_ended how r it d).processed ≡ d.processed
 if_ended = grind (arith, request_ended)
-
-pub turned : (r : ℕ) (it : Request) (d : Desk) → (turned_away r it d).processed ≡ d.processed
-turned r it d = kept_if _ _ _ refl refl
 
 pub dropped : (r : ℕ) (it : Request) (d : Desk) → (told_of_drop r it d).processed ≡ d.processed
 dropped = grind arith

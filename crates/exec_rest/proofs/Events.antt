@@ -1,13 +1,8 @@
 -- What an event of a worker leaves of each seat and of the callers.
-use Rattle.std.proofs.Common.{◌≡◌, ◌≢◌, ℕ, zero, suc, Bool, true, false, List, [], ◌∷◌, ◌++◌, Option, Some, None, refl, sym, ap, ◌∙◌, subst, arith, inl, inr, get_or, set, drop}
-use Rattle.std.proofs.lemmas.Bool.{true≢false, false≢true, cases_Bool}
-use Rattle.std.specs.Prelude.{◌⊎◌}
-use Rattle.exec_machine.specs.declared.{config.Configuration.Configuration, event.Event.Event, state.{MailMessage.MailMessage, Next.Next}}
-use Rattle.exec_machine.specs.{After.common_after, Choice.{Choice}, Closing.{after_clear, after_next}, Deadlines.rest_until, Mail.{after_apply, after_message, after_post, after_sending}, Tasks.{after_pend, after_wake, after_word, new_seat}, Tests.{has_ended, is_awake}, World.{Common, Own as Books, Seat, no_seat, seat_of}}
-use Rattle.exec_machine.specs.declared.event.Event.TheVariants as event
-use Rattle.exec_machine.specs.declared.state.Rest.TheVariants as rest
-use Rattle.exec_machine.specs.declared.state.WorkerPhase.TheVariants as worker
+use Rattle.std.{proofs.{Common.{◌≡◌, ◌≢◌, ℕ, zero, suc, Bool, true, false, List, [], ◌∷◌, ◌++◌, Option, Some, None, refl, sym, ap, ◌∙◌, subst, arith, inl, inr, get_or, set, drop}, lemmas.Bool.{true≢false, false≢true, cases_Bool}}, specs.Prelude.◌⊎◌}
+use Rattle.exec_machine.specs.{declared.{config.Configuration.Configuration, event.Event.{Event, Event as event}, state.{MailMessage.MailMessage, Next.Next, WorkerPhase.WorkerPhase as worker}}, After.common_after, Choice.Choice, Closing.{after_clear, after_next}, Deadlines.rest_until, Mail.{after_apply, after_message, after_post, after_sending}, Tasks.{after_pend, after_wake, after_word, new_seat}, Tests.{has_ended, is_awake}, World.{Common, Own as Books, Seat, no_seat, seat_of}}
 use Rattle.exec_rest.proofs.Heeds.{landed_after}
+use Rattle.exec_machine.specs.declared.state.Rest.TheVariants as rest
 
 -- A SEAT
 

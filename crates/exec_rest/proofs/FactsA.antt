@@ -1,15 +1,9 @@
 -- What holds after a move of a worker that heeds: of the idle set, the global queue and the run queues, and that who has
 -- ended, or calls, does so still.
-use Rattle.std.proofs.Common.{◌≡◌, ◌≢◌, ℕ, ◌<◌, Bool, true, false, ◌||◌, [], length, Some, sym, ap, ◌∙◌, subst, inl, inr, slice_index_or, arith}
-use Rattle.std.proofs.lemmas.{Bool.{true≢false, false≢true, and_parts, cases_Bool, cases_eq, cases_lt, or_cases, or_left, or_right, not-true}, List.get_or_past}
-use Rattle.std.specs.Prelude.{◌⊎◌}
-use Rattle.exec_machine.specs.{declared.config.Configuration.Configuration, Callers.{is_enabled, is_half_done, may_go_on}, Tests.{has_ended}, World.{Common, Own as Books, Seat, no_seat, own_of, seat_of}}
-use Rattle.exec_machine.specs.declared.state.Call.TheVariants as call
-use Rattle.exec_machine.specs.declared.step.Action.TheVariants as action
-use Rattle.exec_moves.specs.{declared.{handing.CallPlace.CallPlace, place.Place.Place}, Move.{move}, Plays.{Playing, by_move, caller_of, desk_of}, State.{Desk, Moved, Things, queue_of}}
-use Rattle.exec_rest.specs.Places.{call_owes, call_signals, has_looked, is_dry, is_in_call, is_pooled, is_published, is_withdrawing, owes, owes_nothing, signals}
-use Rattle.exec_rest.specs.Rested.{IsLaidOut, IsOwed, IsRestful, IsSignalled, Someone, Someone.{Worker, Caller}, has_bit, is_in_pool, is_latched, place_at}
-use Rattle.exec_rest.proofs.{Frames.{callers_same, desk_other, desk_own, ended_after, pool_after}, Heeds.Heeds}
+use Rattle.std.{proofs.{Common.{◌≡◌, ◌≢◌, ℕ, ◌<◌, Bool, true, false, ◌||◌, [], length, Some, sym, ap, ◌∙◌, subst, inl, inr, slice_index_or, arith}, lemmas.{Bool.{true≢false, false≢true, and_parts, cases_Bool, cases_eq, cases_lt, or_cases, or_left, or_right, not-true}, List.get_or_past}}, specs.Prelude.◌⊎◌}
+use Rattle.exec_machine.specs.{declared.{config.Configuration.Configuration, state.Call.Call as call, step.Action.Action as action}, Callers.{is_enabled, is_half_done, may_go_on}, Tests.has_ended, World.{Common, Own as Books, Seat, no_seat, own_of, seat_of}}
+use Rattle.exec_moves.specs.{declared.{handing.CallPlace.CallPlace, place.Place.Place}, Move.move, Plays.{Playing, by_move, caller_of, desk_of}, State.{Desk, Moved, Things, queue_of}}
+use Rattle.exec_rest.{specs.{Places.{call_owes, call_signals, has_looked, is_dry, is_in_call, is_pooled, is_published, is_withdrawing, owes, owes_nothing, signals}, Rested.{IsLaidOut, IsOwed, IsRestful, IsSignalled, Someone, Someone.{Worker, Caller}, has_bit, is_in_pool, is_latched, place_at}}, proofs.{Frames.{callers_same, desk_other, desk_own, ended_after, pool_after}, Heeds.Heeds}}
 
 -- WHO WITHDRAWS isn't published then, and so needs no answer any more where it was claimed before. (No field of `Heeds` says so.)
 

@@ -1,19 +1,10 @@
 -- From one move of a worker to what holds afterwards of sleepers, of who is about to sleep, and of wake polls.
-use Rattle.std.proofs.Common.{◌≡◌, ◌≢◌, ℕ, ◌<◌, Bool, true, false, ◌&&◌, ◌||◌, List, length, Option, Some, refl, sym, ap, ap₂, ◌∙◌, subst, inl, inr, arith}
-use Rattle.std.proofs.lemmas.Bool.{true≢false, false≢true, and_parts, or_right, cases_eq, cases_lt}
-use Rattle.std.proofs.lemmas.List.{get_or_past}
-use Rattle.std.specs.Prelude.{◌⊎◌, is_some, not}
+use Rattle.std.{proofs.{Common.{◌≡◌, ◌≢◌, ℕ, ◌<◌, Bool, true, false, ◌&&◌, ◌||◌, List, length, Option, Some, refl, sym, ap, ap₂, ◌∙◌, subst, inl, inr, arith}, lemmas.{Bool.{true≢false, false≢true, and_parts, or_right, cases_eq, cases_lt}, List.get_or_past}}, specs.Prelude.{◌⊎◌, is_some, not}}
+use Rattle.exec_words.specs.declared.word.WaitTarget.{WaitTarget, WaitTarget as target}
+use Rattle.exec_machine.specs.{declared.{step.Action.Action as action, config.Configuration.Configuration, event.Event.TheVariants.{Rouse, Sleep}}, Callers.{is_enabled, is_held}, Tests.{has_ended, is_awake, is_empty}, World.{Common, Own as Books, own_of, seat_of}}
+use Rattle.exec_moves.specs.{declared.place.Place.Place, Claim.is_ring, Plays.{Playing, by_move, desk_of}, Serve.Ring, State.{Desk, Moved, Things, WakePoll, raised, word_of, wake_poll_of}, Thing.ring_of, Wait.has_completion}
+use Rattle.exec_rest.{specs.{Places.{Raising, asked_for_poll, is_abed, is_to_enter, is_to_sleep_on_ring, raises, waits_on}, Rested.{IsLaidOut, IsRaised, IsRestful, Someone.{Worker, Caller}, is_latched, is_told, place_at, poll_at, ring_at, sleeps}}, proofs.{Heeds.{Heeds, Rings, ring_after}, Frames.{asleep_after, desk_other, desk_own, landed_own, landed_same}, CallFacts.{enters_ring, sleeps_on_ring, raised_kept, raised_ended}}}
 pub use Rattle.std.proofs.lemmas.Bool.{not-true}
-use Rattle.exec_words.specs.declared.word.WaitTarget.{WaitTarget}
-use Rattle.exec_words.specs.declared.word.WaitTarget.TheVariants as target
-use Rattle.exec_machine.specs.declared.step.Action.TheVariants as action
-use Rattle.exec_machine.specs.{declared.{config.Configuration.Configuration, event.Event.TheVariants.{Rouse, Sleep}}, Callers.{is_enabled, is_held}, Tests.{has_ended, is_awake, is_empty}, World.{Common, Own as Books, own_of, seat_of}}
-use Rattle.exec_moves.specs.{declared.{place.Place.Place}, Claim.is_ring, Plays.{Playing, by_move, desk_of}, Serve.Ring, State.{Desk, Moved, Things, WakePoll, raised, word_of, wake_poll_of}, Thing.ring_of, Wait.has_completion}
-use Rattle.exec_rest.specs.Places.{Raising, asked_for_poll, is_abed, is_to_enter, is_to_sleep_on_ring, raises, waits_on}
-use Rattle.exec_rest.specs.Rested.{IsLaidOut, IsRaised, IsRestful, Someone.{Worker, Caller}, is_latched, is_told, place_at, poll_at, ring_at, sleeps}
-use Rattle.exec_rest.proofs.Heeds.{Heeds, Rings, ring_after}
-use Rattle.exec_rest.proofs.Frames.{asleep_after, desk_other, desk_own, landed_own, landed_same}
-use Rattle.exec_rest.proofs.CallFacts.{enters_ring, sleeps_on_ring, raised_kept, raised_ended}
 
 -- A WAKE THAT IS RAISED
 

@@ -1,7 +1,5 @@
 -- So it is in the first state: all workers begin, nobody is published, and nothing is queued.
-use Rattle.std.proofs.Common.{◌≡◌, ℕ, zero, suc, Bool, true, false, get_or, replicate, is_some, refl, sym, ap, ◌∙◌}
-use Rattle.std.proofs.lemmas.Bool.{true≢false, false≢true}
-use Rattle.std.specs.Prelude.{not}
+use Rattle.std.{proofs.{Common.{◌≡◌, ℕ, zero, suc, Bool, true, false, get_or, replicate, is_some, refl, sym, ap, ◌∙◌}, lemmas.Bool.{true≢false, false≢true}}, specs.Prelude.not}
 use Rattle.exec_machine.specs.{declared.config.Configuration.Configuration, Progress.Plan, Tasks.new_seat, Tests.is_awake, World.{Seat, no_seat}}
 use Rattle.exec_moves.specs.{declared.place.Place.Place, Call.no_call, Plays.{caller_of, first_desk, first_desks, first_playing}, State.{Desk, no_wake_poll}}
 use Rattle.exec_rest.specs.{Places.{asked_for_poll, is_dry, is_in_call, is_pooled, is_published, is_to_enter, is_to_sleep_on_ring, owes_nothing, waits_on}, Rested.{IsRestful, has_bit, place_at, poll_at, sleeps}}

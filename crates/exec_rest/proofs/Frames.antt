@@ -1,10 +1,8 @@
 -- What the event of a worker's move leaves of seats and callers, and what the move leaves of the places of all others.
-use Rattle.std.proofs.Common.{◌≡◌, ◌≢◌, ℕ, zero, suc, ◌<◌, ◌+◌, true, false, List, [], ◌∷◌, ◌++◌, length, Option, refl, ◌∙◌, arith, get_or}
-use Rattle.std.proofs.lemmas.List.{get_or_append_left, get_or-set_other, get_or-set_same, length-set}
-use Rattle.std.specs.Prelude.{◌⊎◌}
+use Rattle.std.{proofs.{Common.{◌≡◌, ◌≢◌, ℕ, zero, suc, ◌<◌, ◌+◌, true, false, List, [], ◌∷◌, ◌++◌, length, Option, refl, ◌∙◌, arith, get_or}, lemmas.List.{get_or_append_left, get_or-set_other, get_or-set_same, length-set}}, specs.Prelude.◌⊎◌}
 use Rattle.exec_machine.specs.{declared.{config.Configuration.Configuration, event.Event.{Event, TheVariants.{Dedicated, End, Rouse, Sleep}}}, After.common_after, Choice.Choice, Tests.{has_ended, is_awake}, World.{Common, Own as Books, seat_of}}
 use Rattle.exec_moves.specs.{Callback.is_of_pool, Plays.{Playing, by_move, desk_of}, State.{Desk, Moved, Things}}
-use Rattle.exec_rest.proofs.{Events.{Seated, callers_after, own_landed, seats_after}, Heeds.{landed_after}}
+use Rattle.exec_rest.proofs.{Events.{Seated, callers_after, own_landed, seats_after}, Heeds.landed_after}
 
 module _ (c : Configuration) (me : Books) (s : Common) (i : ℕ) (e : Event) (choice : Choice) where
   abbrev pub then : Common

@@ -1,14 +1,10 @@
 -- A task that is Idle or Running began its last poll after its last wake: at first, and after each step of any party. A poll begins fresh,
 -- and who is woken is Queued, Noted or over. It is a fact of the events alone, whatever is chosen and whether or not they may come.
-use Rattle.std.proofs.Common.{◌≡◌, ℕ, zero, suc, Bool, true, false, ◌||◌, ◌&&◌, List, [], ◌∷◌, ◌++◌, Option, Some, get_or, set, refl, sym, ap, ◌∙◌, subst, inl, inr, arith}
-use Rattle.std.proofs.lemmas.Bool.{false≢true, cases_Bool}
-use Rattle.std.specs.Prelude.{if◌then◌else◌, is_some, slice_get, unwrap_or}
+use Rattle.std.{proofs.{Common.{◌≡◌, ℕ, zero, suc, Bool, true, false, ◌||◌, ◌&&◌, List, [], ◌∷◌, ◌++◌, Option, Some, get_or, set, refl, sym, ap, ◌∙◌, subst, inl, inr, arith}, lemmas.Bool.{false≢true, cases_Bool}}, specs.Prelude.{if◌then◌else◌, is_some, slice_get, unwrap_or}}
 use Rattle.exec_outcomes.specs.{declared.outcome.OpResult.OpResult, Outcomes.refuses_hint}
-use Rattle.exec_machine.specs.declared.{config.Configuration.Configuration, event.Event.Event, state.{MailMessage.MailMessage, Next.Next, Request.Request, TaskPhase.TaskPhase}, step.Action.Action}
-use Rattle.exec_machine.specs.{After.{common_after}, Callers.{after_going_on, after_spawn_by_call, after_wake_by_call, is_enabled}, Choice.{Choice, Payer}, Closing.{after_clear, after_next, ends_by_clear, with_cleared}, Mail.{after_message, after_post, after_sending, is_left_out, is_root_message}, Progress.{Plan, is_runnable}, Requests.{common_after_refusal, judged_of}, Run.first_tasks, Tasks.{after_over, after_payment, after_pend, after_taking, after_wake, after_word, pended_phase, wake, woken_phase}, Tests.{is_done, waits_for_nothing}, World.{Common, Own as Books, Task, no_task, own_of, task_of}}
+use Rattle.exec_machine.specs.{declared.{config.Configuration.Configuration, event.Event.Event, state.{MailMessage.MailMessage, Next.Next, Request.Request, TaskPhase.TaskPhase}, step.Action.Action}, After.common_after, Callers.{after_going_on, after_spawn_by_call, after_wake_by_call, is_enabled}, Choice.{Choice, Payer}, Closing.{after_clear, after_next, ends_by_clear, with_cleared}, Mail.{after_message, after_post, after_sending, is_left_out, is_root_message}, Progress.{Plan, is_runnable}, Requests.{common_after_refusal, judged_of}, Run.first_tasks, Tasks.{after_over, after_payment, after_pend, after_taking, after_wake, after_word, pended_phase, wake, woken_phase}, Tests.{is_done, waits_for_nothing}, World.{Common, Own as Books, Task, no_task, own_of, task_of}}
 use Rattle.exec_moves.specs.{Plays.{Playing, by_action, by_move, by_step, first_playing}, State.{Moved, Things}}
-use Rattle.exec_rest.specs.AtRest.{AreFresh, is_unnoted}
-use Rattle.exec_rest.proofs.Sides.{put_cases}
+use Rattle.exec_rest.{specs.AtRest.{AreFresh, is_unnoted}, proofs.Sides.put_cases}
 
 -- A TASK
 

@@ -1,32 +1,13 @@
 -- Only a worker of the pool comes to a place at which its own run queue is given a task that it made or woke.
-use Rattle.std.proofs.Common.{◌≡◌, ℕ, Bool, true, false, ◌+◌, ◌-◌, ◌*◌, ◌==◌, ◌&&◌, ◌||◌, List, [], ◌∷◌, Option, Some, None, refl, arith}
-use Rattle.std.specs.Prelude.{drop, nat_le, not}
-use Rattle.exec_outcomes.specs.{Accounts.is_durable}
-use Rattle.exec_words.specs.{Head.is_stealable_at, Idle.is_in, Queue.{Queue, head_of, tail_of}, Word.{asks_signal}}
-use Rattle.exec_machine.specs.{declared.{config.{Configuration.Configuration, ScriptWord.ScriptWord}, state.{Operation.Operation, RequestPhase.RequestPhase, Waiting.Waiting}}, Deadlines.next_due, Ranges.ring_size, Requests.operation_asked, Tasks.begun_waiting, Tests.{is_applied, is_done, is_idle, is_ready}, World.{Common, Own as Books, Task, request_of, sleeper_of, task_of}, Words.{next_word}}
+use Rattle.std.{proofs.Common.{◌≡◌, ℕ, Bool, true, false, ◌+◌, ◌-◌, ◌*◌, ◌==◌, ◌&&◌, ◌||◌, List, [], ◌∷◌, Option, Some, None, refl, arith}, specs.Prelude.{drop, nat_le, not}}
+use Rattle.exec_outcomes.specs.Accounts.{is_durable}
+use Rattle.exec_words.specs.{Head.is_stealable_at, Idle.is_in, Queue.{Queue, head_of, tail_of}, Word.asks_signal}
+use Rattle.exec_machine.specs.{declared.{config.{Configuration.Configuration, ScriptWord.ScriptWord}, state.{Operation.Operation, RequestPhase.RequestPhase, Waiting.Waiting}}, Deadlines.next_due, Ranges.ring_size, Requests.operation_asked, Tasks.begun_waiting, Tests.{is_applied, is_done, is_idle, is_ready}, World.{Common, Own as Books, Task, request_of, sleeper_of, task_of}, Words.next_word}
+use Rattle.exec_moves.specs.{declared.{handing.{AfterCallbacks.AfterCallbacks, AfterKick.AfterKick, AfterPop.AfterPop, AfterPush.{AfterPush, AfterPush as push}, AfterSend.{AfterSend, AfterSend as send}, AfterSignal.AfterSignal, Heard.{Heard, Heard as heard}, InGlobal.{InGlobal, InGlobal as global}, InKick.{InKick, InKick as kicks}, InPop.InPop, InPush.InPush, InSignal.{InSignal, InSignal as signals}, AfterCancels.AfterCancels as cancels}, idling.{InLook.{InLook, InLook as look}, InRingWait.InRingWait, InScan.InScan, InSearch.{InSearch, InSearch as search}, InWordWait.InWordWait, Stay.Stay}, place.{InCallbacks.{InCallbacks, InCallbacks as callback}, InClosing.InClosing, InLoads.{InLoads, InLoads as load}, InMail.InMail, InPick.InPick, InPoll.{InPoll, InPoll as poll}, InService.{InService, InService as step}, Place.{Place, Place as at}, Reaping.Reaping, Round.Round, Service.Service}}, Callback.{Item, Item.{Answers, Completes, LetsGo, Nothing, Releases, Wakes}, flagged_by, has_callbacks, is_full, is_of_pool, item_next, tells_waiter, woken_by}, Claim.claimed, Global.has_any, Load.{has_come, has_submissions, is_ready as has_ready}, Look.{look_at_mirror, searching_if}, Move.{move, move_act, move_at, move_callbacks, move_closing, move_global, move_item, move_kick, move_loads, move_look, move_look_at, move_mail, move_pick, move_poll, move_pop, move_push, move_ring_wait, move_scan, move_search, move_service, move_signal, move_submit, move_wake, move_word_wait}, Poll.{Sight, act, act_asked, act_by, after_pend, heard_by, requeued_if, resume, sight_of}, Pop.{load_pop_head, pops}, Send.first_letter, Serve.{Ring, end_service, first_to_fire, reap}, State.{Desk, Moved, Things, queue_of, word_of}, Submit.{Due, due_next}, Thing.ring_of, Told.lets_go_all, Wait.{enter_ring, has_completion}}
+use Rattle.exec_rest.{specs.AtRest.is_given, proofs.{Continuing.{light_polls, light_next_pick, light_after_poll, light_leaves_for_turn, light_cancels_left, light_after_posting, light_after_pop, light_after_empty_pop, light_judge_pop}, Giving.{Fair, begun, calling, claiming, desk_if, fair_if, headed, kicked, loaded, looking, move_if, none, pushed, queued, returned, scanned, searching, served, signalled, spawned, tailed, waited, waiting_on, withdrawn, fair_light}}}
 use Rattle.exec_machine.specs.declared.state.Waiting.TheVariants as waiting
-use Rattle.exec_moves.specs.declared.handing.{AfterCallbacks.AfterCallbacks, AfterKick.AfterKick, AfterPop.AfterPop, AfterPush.AfterPush, AfterSend.AfterSend, AfterSignal.AfterSignal, Heard.Heard, InGlobal.InGlobal, InKick.InKick, InPop.InPop, InPush.InPush, InSignal.InSignal}
-use Rattle.exec_moves.specs.declared.idling.{InLook.InLook, InRingWait.InRingWait, InScan.InScan, InSearch.InSearch, InWordWait.InWordWait, Stay.Stay}
-use Rattle.exec_moves.specs.declared.place.{InCallbacks.InCallbacks, InClosing.InClosing, InLoads.InLoads, InMail.InMail, InPick.InPick, InPoll.InPoll, InService.InService, Place.Place, Reaping.Reaping, Round.Round, Service.Service}
-use Rattle.exec_moves.specs.{Callback.{Item, Item.{Answers, Completes, LetsGo, Nothing, Releases, Wakes}, flagged_by, has_callbacks, is_full, is_of_pool, item_next, tells_waiter, woken_by}, Claim.claimed, Global.has_any, Load.{has_come, has_submissions, is_ready as has_ready}, Look.{look_at_mirror, searching_if}, Move.{move, move_act, move_at, move_callbacks, move_closing, move_global, move_item, move_kick, move_loads, move_look, move_look_at, move_mail, move_pick, move_poll, move_pop, move_push, move_ring_wait, move_scan, move_search, move_service, move_signal, move_submit, move_wake, move_word_wait}, Poll.{Sight, act, act_asked, act_by, after_pend, heard_by, requeued_if, resume, sight_of}, Pop.{load_pop_head, pops}, Send.first_letter, Serve.{Ring, end_service, first_to_fire, reap}, State.{Desk, Moved, Things, queue_of, word_of}, Submit.{Due, due_next}, Thing.ring_of, Told.{lets_go_all}, Wait.{enter_ring, has_completion}}
-use Rattle.exec_moves.specs.declared.handing.AfterCancels.TheVariants as cancels
-use Rattle.exec_moves.specs.declared.handing.AfterPush.TheVariants as push
-use Rattle.exec_moves.specs.declared.handing.AfterSend.TheVariants as send
-use Rattle.exec_moves.specs.declared.handing.Heard.TheVariants as heard
-use Rattle.exec_moves.specs.declared.handing.InGlobal.TheVariants as global
-use Rattle.exec_moves.specs.declared.handing.InKick.TheVariants as kicks
-use Rattle.exec_moves.specs.declared.handing.InSignal.TheVariants as signals
 use Rattle.exec_moves.specs.declared.idling.AfterWait.TheVariants as later
-use Rattle.exec_moves.specs.declared.idling.InLook.TheVariants as look
 use Rattle.exec_moves.specs.declared.idling.InRingWait.TheVariants as ring
-use Rattle.exec_moves.specs.declared.idling.InSearch.TheVariants as search
-use Rattle.exec_moves.specs.declared.place.InCallbacks.TheVariants as callback
-use Rattle.exec_moves.specs.declared.place.InLoads.TheVariants as load
-use Rattle.exec_moves.specs.declared.place.InPoll.TheVariants as poll
-use Rattle.exec_moves.specs.declared.place.InService.TheVariants as step
-use Rattle.exec_moves.specs.declared.place.Place.TheVariants as at
-use Rattle.exec_rest.specs.AtRest.{is_given}
-use Rattle.exec_rest.proofs.{Continuing.{light_polls, light_next_pick, light_after_poll, light_leaves_for_turn, light_cancels_left, light_after_posting, light_after_pop, light_after_empty_pop, light_judge_pop}, Giving.{Fair, begun, calling, claiming, desk_if, fair_if, headed, kicked, loaded, looking, move_if, none, pushed, queued, returned, scanned, searching, served, signalled, spawned, tailed, waited, waiting_on, withdrawn, fair_light}}
 
 module _ (c : Configuration) (i : ℕ) (me : Books) (s : Common) (d : Desk) (x : Things) (before : Fair c i me s d.place) where
   -- a move after which it is fair

@@ -1,17 +1,10 @@
 -- Where the parts lead: to a place at which a run queue is given a task that its worker made or woke comes only a worker of the
 -- pool.
-use Rattle.std.proofs.Common.{◌≡◌, ℕ, Bool, true, false, ◌-◌, ◌==◌, if◌then◌else◌, arith}
-use Rattle.std.proofs.lemmas.Bool.{false≢true}
-use Rattle.std.specs.Prelude.{nat_le, nat_lt, not}
-use Rattle.exec_words.specs.declared.head.{Head.Head}
-use Rattle.exec_machine.specs.{declared.{config.Configuration.Configuration, state.{Waiting.Waiting}}, Ranges.ring_size, World.{Common, Own as Books}}
-use Rattle.exec_moves.specs.declared.handing.{AfterCallbacks.AfterCallbacks, AfterClaim.AfterClaim, AfterKick.AfterKick, AfterLeave.AfterLeave, AfterPush.AfterPush, AfterSignal.AfterSignal}
-use Rattle.exec_moves.specs.declared.idling.{AfterWait.AfterWait, Scan.Scan, Stay.Stay}
-use Rattle.exec_moves.specs.declared.place.{AfterService.AfterService, Found.Found, Place.Place, Round.Round}
-use Rattle.exec_moves.specs.{Callback.{after_callbacks, has_callbacks, is_of_pool, next_callback, to_queue}, Claim.{Claimed, after_claim}, Load.{after_loads}, Look.{after_withdrawal, looks_from, past_own}, Parts.{after_kick, after_leave, after_push, after_return, after_signal}, Poll.{after_begin}, Search.{judge_head, judge_tail, looks_at, past, past_own_queue}, Send.{after_spawn}, Serve.after_service, State.{Desk, Moved}, Wait.{after_wait, first_search, waits, withdraws}}
-use Rattle.exec_moves.specs.declared.place.Place.TheVariants as at
-use Rattle.exec_rest.specs.AtRest.{is_given}
-use Rattle.exec_rest.proofs.Continuing.{is_light, light_next_pick, light_after_send}
+use Rattle.std.{proofs.{Common.{◌≡◌, ℕ, Bool, true, false, ◌-◌, ◌==◌, if◌then◌else◌, arith}, lemmas.Bool.false≢true}, specs.Prelude.{nat_le, nat_lt, not}}
+use Rattle.exec_words.specs.declared.head.Head.{Head}
+use Rattle.exec_machine.specs.{declared.{config.Configuration.Configuration, state.Waiting.Waiting}, Ranges.ring_size, World.{Common, Own as Books}}
+use Rattle.exec_moves.specs.{declared.{handing.{AfterCallbacks.AfterCallbacks, AfterClaim.AfterClaim, AfterKick.AfterKick, AfterLeave.AfterLeave, AfterPush.AfterPush, AfterSignal.AfterSignal}, idling.{AfterWait.AfterWait, Scan.Scan, Stay.Stay}, place.{AfterService.AfterService, Found.Found, Place.{Place, Place as at}, Round.Round}}, Callback.{after_callbacks, has_callbacks, is_of_pool, next_callback, to_queue}, Claim.{Claimed, after_claim}, Load.after_loads, Look.{after_withdrawal, looks_from, past_own}, Parts.{after_kick, after_leave, after_push, after_return, after_signal}, Poll.after_begin, Search.{judge_head, judge_tail, looks_at, past, past_own_queue}, Send.after_spawn, Serve.after_service, State.{Desk, Moved}, Wait.{after_wait, first_search, waits, withdraws}}
+use Rattle.exec_rest.{specs.AtRest.is_given, proofs.Continuing.{is_light, light_next_pick, light_after_send}}
 
 module _ (c : Configuration) (i : ℕ) (me : Books) (s : Common) where
   -- if a task is given there, worker i is of the pool

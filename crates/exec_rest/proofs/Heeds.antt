@@ -1,8 +1,6 @@
 -- What the move of a worker does as far as waking goes. Each move does it; and whatever does it keeps what holds.
-use Rattle.std.proofs.Common.{◌≡◌, ◌≢◌, ℕ, ◌<◌, Bool, true, false, ◌&&◌, ◌||◌, List, [], length, Option, Some}
-use Rattle.std.specs.Prelude.{◌⊎◌, drop, is_some, not}
-use Rattle.exec_words.specs.Idle.{is_in}
-use Rattle.exec_words.specs.declared.word.WaitTarget.TheVariants as target
+use Rattle.std.{proofs.Common.{◌≡◌, ◌≢◌, ℕ, ◌<◌, Bool, true, false, ◌&&◌, ◌||◌, List, [], length, Option, Some}, specs.Prelude.{◌⊎◌, drop, is_some, not}}
+use Rattle.exec_words.specs.{Idle.is_in, declared.word.WaitTarget.WaitTarget as target}
 use Rattle.exec_machine.specs.{declared.event.Event.{Event, TheVariants.{Dedicated, End, Reap, Rouse, Sleep}}, Tests.{is_awake, is_empty}, World.{Common, seat_of}}
 use Rattle.exec_moves.specs.{declared.place.Place.Place, Callback.is_of_pool, Claim.is_ring, Serve.Ring, State.{Desk, Moved, Things, queue_of, word_of, wake_poll_of, raised}, Thing.ring_of, Wait.has_completion}
 use Rattle.exec_rest.specs.Places.{asked_for_poll, has_looked, is_abed, is_dry, is_pooled, is_published, is_to_enter, is_to_sleep_on_ring, is_withdrawing, owes, owes_nothing, raises, signals, waits_on}

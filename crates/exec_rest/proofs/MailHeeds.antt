@@ -1,13 +1,9 @@
 -- What the move of a worker does to mailboxes: by a send, by taking the own inbox, and by all others.
-use Rattle.std.proofs.Common.{◌≡◌, ◌≢◌, ℕ, zero, suc, Bool, true, false, List, [], ◌∷◌, ◌++◌, length, Option, Some, refl, sym, ap, ◌∙◌, inl, inr, arith, slice_set, slice_index_or, if◌then◌else◌}
-use Rattle.std.proofs.lemmas.{Bool.{false≢true, cases_eq}, List.{get_or-set_other, length-set}}
-use Rattle.std.specs.Prelude.{◌⊎◌}
-use Rattle.exec_words.specs.{declared.word.{PureWord.PureWord}}
-use Rattle.exec_words.specs.declared.word.WaitTarget.TheVariants as target
+use Rattle.std.{proofs.{Common.{◌≡◌, ◌≢◌, ℕ, zero, suc, Bool, true, false, List, [], ◌∷◌, ◌++◌, length, Option, Some, refl, sym, ap, ◌∙◌, inl, inr, arith, slice_set, slice_index_or, if◌then◌else◌}, lemmas.{Bool.{false≢true, cases_eq}, List.{get_or-set_other, length-set}}}, specs.Prelude.◌⊎◌}
+use Rattle.exec_words.specs.declared.word.{PureWord.PureWord, WaitTarget.WaitTarget as target}
 use Rattle.exec_machine.specs.{declared.{config.Configuration.Configuration, event.Event.TheVariants.{Closed, Send, Sleep}, state.MailMessage.MailMessage}, Choice.{Choice, Choice.Plain}, Tests.is_empty, World.{Common, seat_of}}
 use Rattle.exec_moves.specs.{declared.{handing.AfterSend.AfterSend, place.Place.Place}, Close.batches_closed, Send.{Mailbox, after_posting, asks, posted, posting_of, sent, with_newcomer}, State.{Desk, Moved, Things, inbox_of, no_word, word_of}, Thing.{mailbox_of, set_mailbox, set_word, with_inbox, with_mailbox}}
-use Rattle.exec_rest.specs.{Places.signals, Posted.{IsNumbered, is_early}}
-use Rattle.exec_rest.proofs.Asides.{none_more, put_same}
+use Rattle.exec_rest.{specs.{Places.signals, Posted.{IsNumbered, is_early}}, proofs.Asides.{none_more, put_same}}
 
 -- each wake word has an inbox
 abbrev pub IsMatched : Things → Type 0

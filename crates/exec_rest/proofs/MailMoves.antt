@@ -1,24 +1,7 @@
 -- Each move does to mailboxes what `MailHeeds` says: a message is sent, the own inbox is taken, or nothing changes.
-use Rattle.std.proofs.Common.{◌≡◌, ℕ, ◌+◌, ◌==◌, Bool, true, false, Option, Some, None, refl, if◌then◌else◌, arith}
-use Rattle.std.proofs.lemmas.Bool.{true≢false}
-use Rattle.std.specs.Prelude.{drop}
+use Rattle.std.{proofs.{Common.{◌≡◌, ℕ, ◌+◌, ◌==◌, Bool, true, false, Option, Some, None, refl, if◌then◌else◌, arith}, lemmas.Bool.true≢false}, specs.Prelude.drop}
 use Rattle.exec_machine.specs.{declared.{config.{Configuration.Configuration, ScriptWord.ScriptWord}, state.MailMessage.TheVariants.Root}, Choice.Choice.{Plain, Posts}, World.{Common, Own as Books}}
-use Rattle.exec_moves.specs.{declared.{handing.{AfterCallbacks.AfterCallbacks, AfterSend.AfterSend, AfterSignal.AfterSignal, InSignal.InSignal}, idling.{InRingWait.InRingWait, InWordWait.InWordWait, Stay.Stay}, place.{InCallbacks.InCallbacks, InClosing.InClosing, InLoads.InLoads, InMail.InMail, InPoll.InPoll, InService.InService, Place.Place, Round.Round, Service.Service}}, Callback.{Item, Item.Wakes, item_next}, Move.{move_at, move_act, move_callbacks, move_closing, move_item, move_loads, move_look_at, move_mail, move_poll, move_ring_wait, move_service, move_signal, move_submit, move_wake, move_word_wait}, Poll.{Sight, Sight.{Asks, HearsRequest, HearsTimer, Here}}, Send.{first_letter, is_left_out, payer_of_send, send_root, with_newcomer}, State.{Desk, Moved, Things, word_of}, Submit.{Due, Due.Expires}, Thing.{mailbox_of, with_mailbox}}
-use Rattle.exec_moves.specs.declared.handing.AfterSend.TheVariants as send
-use Rattle.exec_moves.specs.declared.handing.InGlobal.TheVariants as global
-use Rattle.exec_moves.specs.declared.handing.InKick.TheVariants as kick
-use Rattle.exec_moves.specs.declared.handing.InPop.TheVariants as pop
-use Rattle.exec_moves.specs.declared.handing.InPush.TheVariants as push
-use Rattle.exec_moves.specs.declared.handing.InSignal.TheVariants as signal
-use Rattle.exec_moves.specs.declared.idling.InLook.TheVariants as look
-use Rattle.exec_moves.specs.declared.idling.InScan.TheVariants as scan
-use Rattle.exec_moves.specs.declared.idling.InSearch.TheVariants as search
-use Rattle.exec_moves.specs.declared.idling.InWordWait.TheVariants as word
-use Rattle.exec_moves.specs.declared.place.InPick.TheVariants as pick
-use Rattle.exec_moves.specs.declared.place.InCallbacks.TheVariants as callback
-use Rattle.exec_moves.specs.declared.place.InLoads.TheVariants as load
-use Rattle.exec_moves.specs.declared.place.InClosing.TheVariants as closing
-use Rattle.exec_moves.specs.declared.place.Place.TheVariants as at
+use Rattle.exec_moves.specs.{declared.{handing.{AfterCallbacks.AfterCallbacks, AfterSend.{AfterSend, AfterSend as send}, AfterSignal.AfterSignal, InSignal.{InSignal, InSignal as signal}, InGlobal.InGlobal as global, InKick.InKick as kick, InPop.InPop as pop, InPush.InPush as push}, idling.{InRingWait.InRingWait, InWordWait.{InWordWait, InWordWait as word}, Stay.Stay, InLook.InLook as look, InScan.InScan as scan, InSearch.InSearch as search}, place.{InCallbacks.{InCallbacks, InCallbacks as callback}, InClosing.{InClosing, InClosing as closing}, InLoads.{InLoads, InLoads as load}, InMail.InMail, InPoll.InPoll, InService.InService, Place.{Place, Place as at}, Round.Round, Service.Service, InPick.InPick as pick}}, Callback.{Item, Item.Wakes, item_next}, Move.{move_at, move_act, move_callbacks, move_closing, move_item, move_loads, move_look_at, move_mail, move_poll, move_ring_wait, move_service, move_signal, move_submit, move_wake, move_word_wait}, Poll.{Sight, Sight.{Asks, HearsRequest, HearsTimer, Here}}, Send.{first_letter, is_left_out, payer_of_send, send_root, with_newcomer}, State.{Desk, Moved, Things, word_of}, Submit.{Due, Due.Expires}, Thing.{mailbox_of, with_mailbox}}
 use Rattle.exec_rest.proofs.{MailHeeds.{Mails, calm, newcomer, posts, word_put}, Processed.takes_mail}
 
 -- MOVES THAT DON'T TAKE

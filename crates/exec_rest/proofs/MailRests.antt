@@ -1,23 +1,10 @@
 -- Where each move leads, as far as a wait goes: its wake word says that it waits only at places of a wait that it comes to from
 -- others of that wait. So a worker comes with no message to where it sleeps.
-use Rattle.std.proofs.Common.{◌≡◌, ℕ, ◌==◌, Bool, true, false, ◌||◌, List, [], ◌∷◌, Option, Some, None, refl, ap, if◌then◌else◌, nat_lt, nat_le, arith}
-use Rattle.std.proofs.lemmas.Bool.{true≢false}
-use Rattle.std.specs.Prelude.{◌*◌, drop, not}
+use Rattle.std.{proofs.{Common.{◌≡◌, ℕ, ◌==◌, Bool, true, false, ◌||◌, List, [], ◌∷◌, Option, Some, None, refl, ap, if◌then◌else◌, nat_lt, nat_le, arith}, lemmas.Bool.true≢false}, specs.Prelude.{◌*◌, drop, not}}
 use Rattle.exec_words.specs.{Idle.is_in, Word.{asks_signal, is_armed}}
 use Rattle.exec_machine.specs.{declared.config.Configuration.Configuration, Choice.Choice.Plain, Deadlines.next_due, Tests.is_applied, World.{Common, Own as Books, seat_of, sleeper_of}}
-use Rattle.exec_moves.specs.{declared.{handing.{AfterClaim.AfterClaim, AfterPush.AfterPush, AfterSignal.AfterSignal, InGlobal.InGlobal, InSignal.InSignal}, idling.{AfterWait.AfterWait, InLook.InLook, InRingWait.InRingWait, InScan.InScan, InSearch.InSearch, InWordWait.InWordWait, Stay.Stay}, place.{InLoads.InLoads, InService.InService, Place.Place, Reaping.Reaping, Round.Round, Service.Service}}, Callback.{is_of_pool}, Claim.{Claimed, after_claim, claimed}, Global.has_any, Load.{has_come, has_submissions, is_ready, leaves_for_turn}, Look.{after_withdrawal, look_at_mirror, looks_from, past_own, searching_if}, Move.{move_at, move_global, move_loads, move_look, move_ring_wait, move_scan, move_search, move_service, move_signal, move_submit, move_word_wait}, Parts.after_signal, Send.first_letter, Serve.{after_service, end_service, first_to_fire, reap}, State.{Desk, Moved, Own, Things, turns, word_of}, Submit.{Due}, Thing.ring_of, Told.told_of_fire, Wait.{after_wait, first_search, goes_back, waits, withdraws}}
-use Rattle.exec_moves.specs.declared.handing.AfterSend.TheVariants as send
-use Rattle.exec_moves.specs.declared.handing.InGlobal.TheVariants as global
-use Rattle.exec_moves.specs.declared.handing.InSignal.TheVariants as signal
-use Rattle.exec_moves.specs.declared.idling.AfterWait.TheVariants as next
-use Rattle.exec_moves.specs.declared.idling.InLook.TheVariants as looking
-use Rattle.exec_moves.specs.declared.idling.InSearch.TheVariants as searching
-use Rattle.exec_moves.specs.declared.idling.Stay.TheVariants as stay
-use Rattle.exec_moves.specs.declared.place.InLoads.TheVariants as load
-use Rattle.exec_moves.specs.declared.place.Place.TheVariants as at
-use Rattle.exec_moves.specs.declared.place.Round.TheVariants as round
-use Rattle.exec_rest.specs.Places.{waits_on}
-use Rattle.exec_rest.proofs.{Continuing.{Nearly, calm_after_return, calm_after_service, light_first_pick, light_leaves_for_turn, light_polls, near_after_push, near_after_signal, calm_light}, MovesA.{kicks_by, mails_by, picked, pops_by, pushes_by}, MovesB.{calls_by, closes, posts}, MovesC.polls_by, MovesLook.waits_at, Plain.{calm, is_calm}, Waiting.either}
+use Rattle.exec_moves.specs.{declared.{handing.{AfterClaim.AfterClaim, AfterPush.AfterPush, AfterSignal.AfterSignal, InGlobal.{InGlobal, InGlobal as global}, InSignal.{InSignal, InSignal as signal}, AfterSend.AfterSend as send}, idling.{AfterWait.{AfterWait, AfterWait as next}, InLook.{InLook, InLook as looking}, InRingWait.InRingWait, InScan.InScan, InSearch.{InSearch, InSearch as searching}, InWordWait.InWordWait, Stay.{Stay, Stay as stay}}, place.{InLoads.{InLoads, InLoads as load}, InService.InService, Place.{Place, Place as at}, Reaping.Reaping, Round.{Round, Round as round}, Service.Service}}, Callback.is_of_pool, Claim.{Claimed, after_claim, claimed}, Global.has_any, Load.{has_come, has_submissions, is_ready, leaves_for_turn}, Look.{after_withdrawal, look_at_mirror, looks_from, past_own, searching_if}, Move.{move_at, move_global, move_loads, move_look, move_ring_wait, move_scan, move_search, move_service, move_signal, move_submit, move_word_wait}, Parts.after_signal, Send.first_letter, Serve.{after_service, end_service, first_to_fire, reap}, State.{Desk, Moved, Own, Things, turns, word_of}, Submit.Due, Thing.ring_of, Told.told_of_fire, Wait.{after_wait, first_search, goes_back, waits, withdraws}}
+use Rattle.exec_rest.{specs.Places.waits_on, proofs.{Continuing.{Nearly, calm_after_return, calm_after_service, light_first_pick, light_leaves_for_turn, light_polls, near_after_push, near_after_signal, calm_light}, MovesA.{kicks_by, mails_by, picked, pops_by, pushes_by}, MovesB.{calls_by, closes, posts}, MovesC.polls_by, MovesLook.waits_at, Plain.{calm, is_calm}, Waiting.either}}
 
 -- its wake word doesn't say that it waits
 abbrev pub is_free : Place → Bool

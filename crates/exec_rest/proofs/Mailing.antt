@@ -1,19 +1,10 @@
 -- Each move of a worker does to mailboxes what `MailHeeds` says. After such a move batches are numbered as before; and who sleeps,
 -- or is about to on its ring, and has a message was signalled, or is signalled by somebody next.
-use Rattle.std.proofs.Common.{◌≡◌, ◌≢◌, ℕ, ◌<◌, true, false, ◌&&◌, List, [], ◌∷◌, length, Option, Some, refl, sym, ap, ◌∙◌, subst, inl, inr, arith}
-use Rattle.std.proofs.lemmas.{Bool.{true≢false, false≢true, and_parts, cases_Bool, cases_lt, or_cases}, List.{get_or_past}}
-use Rattle.std.specs.Prelude.{◌⊎◌, not}
-use Rattle.exec_words.specs.{Word.{is_armed}}
-use Rattle.exec_words.specs.declared.word.WaitTarget.TheVariants as target
-use Rattle.exec_machine.specs.declared.step.Action.TheVariants as action
-use Rattle.exec_moves.specs.declared.place.InClosing.TheVariants as closing
-use Rattle.exec_moves.specs.declared.place.InMail.TheVariants as mail
-use Rattle.exec_moves.specs.declared.place.Place.TheVariants as at
-use Rattle.exec_machine.specs.{declared.{config.Configuration.Configuration, event.Event.{TheVariants.{Rouse, Sleep}}, state.MailMessage.MailMessage}, Callers.{is_enabled, is_held}, Tests.{has_ended, is_awake}, World.{Common, Own as Books, own_of, seat_of}}
-use Rattle.exec_moves.specs.{declared.{place.Place.Place}, Close.{batches_closed, close_mailbox}, Mail.take_mail, Move.{move, move_at}, Plays.{Playing, by_move, desk_of}, State.{Desk, Moved, Things, inbox_of, word_of}}
-use Rattle.exec_rest.specs.{Places.{call_signals, is_abed, is_to_enter, is_to_sleep_on_ring, signals, waits_on}, Posted.{IsNumbered, IsPosted, IsTold, is_early}, Rested.{IsLaidOut, IsRestful, IsSignalled, Someone.Worker, is_latched, place_at, sleeps}}
-use Rattle.exec_rest.proofs.{FactsA.{at_each, going, here, seated, stays}, FactsB.{abed_waits, is_waiting, not-true}, Frames.{asleep_after, desk_other, desk_own}, Heeds.Heeds, MailHeeds.{IsMatched, MailHeeds, Rests, taken, untaken}, MailMoves.mails_at, MailRests.{frees, is_free, is_of_wait}, Processed.{processed_kept, takes_mail}}
-use Rattle.exec_rest.proofs.CallFacts.{enters_ring, sleeps_on_ring}
+use Rattle.std.{proofs.{Common.{◌≡◌, ◌≢◌, ℕ, ◌<◌, true, false, ◌&&◌, List, [], ◌∷◌, length, Option, Some, refl, sym, ap, ◌∙◌, subst, inl, inr, arith}, lemmas.{Bool.{true≢false, false≢true, and_parts, cases_Bool, cases_lt, or_cases}, List.get_or_past}}, specs.Prelude.{◌⊎◌, not}}
+use Rattle.exec_words.specs.{Word.is_armed, declared.word.WaitTarget.WaitTarget as target}
+use Rattle.exec_machine.specs.{declared.{step.Action.Action as action, config.Configuration.Configuration, event.Event.TheVariants.{Rouse, Sleep}, state.MailMessage.MailMessage}, Callers.{is_enabled, is_held}, Tests.{has_ended, is_awake}, World.{Common, Own as Books, own_of, seat_of}}
+use Rattle.exec_moves.specs.{declared.place.{InClosing.InClosing as closing, InMail.InMail as mail, Place.{Place as at, Place}}, Close.{batches_closed, close_mailbox}, Mail.take_mail, Move.{move, move_at}, Plays.{Playing, by_move, desk_of}, State.{Desk, Moved, Things, inbox_of, word_of}}
+use Rattle.exec_rest.{specs.{Places.{call_signals, is_abed, is_to_enter, is_to_sleep_on_ring, signals, waits_on}, Posted.{IsNumbered, IsPosted, IsTold, is_early}, Rested.{IsLaidOut, IsRestful, IsSignalled, Someone.Worker, is_latched, place_at, sleeps}}, proofs.{FactsA.{at_each, going, here, seated, stays}, FactsB.{abed_waits, is_waiting, not-true}, Frames.{asleep_after, desk_other, desk_own}, Heeds.Heeds, MailHeeds.{IsMatched, MailHeeds, Rests, taken, untaken}, MailMoves.mails_at, MailRests.{frees, is_free, is_of_wait}, Processed.{processed_kept, takes_mail}, CallFacts.{enters_ring, sleeps_on_ring}}}
 
 -- EACH MOVE
 

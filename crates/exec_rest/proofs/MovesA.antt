@@ -1,20 +1,9 @@
 -- Moves that change nothing of waking: of the beginning of a turn, of the own run queue, of kicks, of the mailbox.
-use Rattle.std.proofs.Common.{◌≡◌, ℕ, List, [], ◌∷◌, ◌-◌, ◌==◌, refl, ap, arith}
-use Rattle.std.proofs.lemmas.Bool.{false≢true}
-use Rattle.std.specs.Prelude.{nat_le}
+use Rattle.std.{proofs.{Common.{◌≡◌, ℕ, List, [], ◌∷◌, ◌-◌, ◌==◌, refl, ap, arith}, lemmas.Bool.false≢true}, specs.Prelude.nat_le}
 use Rattle.exec_words.specs.Queue.{Queue, head_of, tail_of}
 use Rattle.exec_machine.specs.{declared.{config.Configuration.Configuration, state.MailMessage.MailMessage}, Tests.is_empty, World.{Common, Own as Books}}
-use Rattle.exec_moves.specs.{declared.{handing.{AfterKick.AfterKick, AfterLeave.AfterLeave, AfterPop.AfterPop, AfterPush.AfterPush, First.First, InKick.InKick, InPop.InPop, InPush.InPush}, place.{InMail.InMail, InPick.InPick}}, Global.has_any, Kick.leave_search, Load.has_mail, Mail.{apply, take_mail}, Move.{move_kick, move_mail, move_pick, move_pop, move_push}, Pick.{begin_turn, load_mirror, take_root_flag, take_share}, Pop.{load_pop_head, pops, same_head}, State.{Desk, Own, Things, inbox_of, queue_of, word_of}, Thing.{aside, set_idle, set_queue, set_word, with_idle, with_inbox, with_global, with_queue, with_queues}}
-use Rattle.exec_moves.specs.declared.handing.InKick.TheVariants as kick
-use Rattle.exec_moves.specs.declared.handing.InPop.TheVariants as pop
-use Rattle.exec_moves.specs.declared.handing.InPush.TheVariants as push
-use Rattle.exec_moves.specs.declared.place.InMail.TheVariants as mail
-use Rattle.exec_moves.specs.declared.place.InPick.TheVariants as pick
-use Rattle.exec_moves.specs.declared.place.Place.TheVariants as at
-use Rattle.exec_rest.proofs.Heeds.{Heeds}
-use Rattle.exec_rest.proofs.Asides.{global_less, idle_put, inbox_put, own_queue, same, share_put, word_put}
-use Rattle.exec_rest.proofs.Continuing.{light_after_empty_pop, calm_after_fit, calm_after_message, light_after_pop, calm_after_return, light_empty_look, light_first_pop, light_judge_pop, light_polls, near_after_kick, near_after_store, near_calm, near_if, calm_light}
-use Rattle.exec_rest.proofs.Nearly.{Quiet, calmly, quiet, quiet_if, quietly}
+use Rattle.exec_moves.specs.{declared.{handing.{AfterKick.AfterKick, AfterLeave.AfterLeave, AfterPop.AfterPop, AfterPush.AfterPush, First.First, InKick.{InKick, InKick as kick}, InPop.{InPop, InPop as pop}, InPush.{InPush, InPush as push}}, place.{InMail.{InMail, InMail as mail}, InPick.{InPick, InPick as pick}, Place.Place as at}}, Global.has_any, Kick.leave_search, Load.has_mail, Mail.{apply, take_mail}, Move.{move_kick, move_mail, move_pick, move_pop, move_push}, Pick.{begin_turn, load_mirror, take_root_flag, take_share}, Pop.{load_pop_head, pops, same_head}, State.{Desk, Own, Things, inbox_of, queue_of, word_of}, Thing.{aside, set_idle, set_queue, set_word, with_idle, with_inbox, with_global, with_queue, with_queues}}
+use Rattle.exec_rest.proofs.{Heeds.Heeds, Asides.{global_less, idle_put, inbox_put, own_queue, same, share_put, word_put}, Continuing.{light_after_empty_pop, calm_after_fit, calm_after_message, light_after_pop, calm_after_return, light_empty_look, light_first_pop, light_judge_pop, light_polls, near_after_kick, near_after_store, near_calm, near_if, calm_light}, Nearly.{Quiet, calmly, quiet, quiet_if, quietly}}
 
 module _ (R : Type 0) (c : Configuration) (i : ℕ) (me : Books) (s : Common) (d : Desk) (x : Things) where
   -- THE BEGINNING OF A TURN

@@ -1,20 +1,9 @@
 -- Moves that change nothing of waking: those by which a message is sent, of a closing, and of the callbacks.
-use Rattle.std.proofs.Common.{◌≡◌, ℕ, Bool, true, false, List, [], ◌+◌, ◌-◌, Option, Some, None, refl, if◌then◌else◌, length, arith}
-use Rattle.std.specs.Prelude.{◌&&◌, drop, slice_get, slice_index_or}
+use Rattle.std.{proofs.Common.{◌≡◌, ℕ, Bool, true, false, List, [], ◌+◌, ◌-◌, Option, Some, None, refl, if◌then◌else◌, length, arith}, specs.Prelude.{◌&&◌, drop, slice_get, slice_index_or}}
 use Rattle.exec_task.specs.declared.drain.Drain.{Drain}
-use Rattle.exec_machine.specs.{declared.{config.Configuration.Configuration, event.Event.{TheVariants.{Closed, Send}}, state.MailMessage.{MailMessage, TheVariants.Root}}, Choice.{Choice, Choice.{Plain, Posts}}, Ranges.ring_size, Tests.{is_done, is_idle}, World.{Common, Task, request_of, seat_of, sleeper_of, task_of, Own as Books}}
-use Rattle.exec_moves.specs.{declared.{handing.{AfterCallbacks.AfterCallbacks, AfterCancels.AfterCancels, AfterSend.AfterSend, Heard.Heard}, place.{InCallbacks.InCallbacks, InClosing.InClosing}}, Callback.{Item, Item.{Answers, Completes, LetsGo, Nothing, Releases, Wakes}, flagged_by, has_callbacks, item_next, tells_waiter, woken_by}, Close.{close_sleeper, first_asleep, first_held, orphan, told_of_clear, visit}, Move.{move_callbacks, move_closing, move_item}, Pop.shard_count, Send.{Mailbox, asks, first_letter, is_left_out, payer_of_send, posted, posting_of, send_cancel, send_root, sent}, State.{Desk, Things}, Thing.{aside, mailbox_of, with_mailbox, with_shard}}
-use Rattle.exec_moves.specs.declared.handing.AfterCancels.TheVariants as cancels
-use Rattle.exec_moves.specs.declared.handing.AfterPush.TheVariants as push
-use Rattle.exec_moves.specs.declared.handing.AfterSend.TheVariants as send
-use Rattle.exec_moves.specs.declared.handing.Heard.TheVariants as heard
-use Rattle.exec_moves.specs.declared.place.InCallbacks.TheVariants as callback
-use Rattle.exec_moves.specs.declared.place.InClosing.TheVariants as closing
-use Rattle.exec_moves.specs.declared.place.Place.TheVariants as at
-use Rattle.exec_rest.proofs.Heeds.{Heeds}
-use Rattle.exec_rest.proofs.Asides.{alarms_put, answers_put, barrier_put, global_less, inbox_put, mailbox_put, same, shard_put}
-use Rattle.exec_rest.proofs.Continuing.{Nearly, light_after_close, light_after_letting_go, light_after_posting, light_cancels_left, light_tells_from, calm_to_queue, near_calm, near_desk_if, near_if, near_next_callback, calm_light}
-use Rattle.exec_rest.proofs.Nearly.{Quiet, calmly, quiet, quietly}
+use Rattle.exec_machine.specs.{declared.{config.Configuration.Configuration, event.Event.TheVariants.{Closed, Send}, state.MailMessage.{MailMessage, TheVariants.Root}}, Choice.{Choice, Choice.{Plain, Posts}}, Ranges.ring_size, Tests.{is_done, is_idle}, World.{Common, Task, request_of, seat_of, sleeper_of, task_of, Own as Books}}
+use Rattle.exec_moves.specs.{declared.{handing.{AfterCallbacks.AfterCallbacks, AfterCancels.{AfterCancels, AfterCancels as cancels}, AfterSend.{AfterSend, AfterSend as send}, Heard.{Heard, Heard as heard}, AfterPush.AfterPush as push}, place.{InCallbacks.{InCallbacks, InCallbacks as callback}, InClosing.{InClosing, InClosing as closing}, Place.Place as at}}, Callback.{Item, Item.{Answers, Completes, LetsGo, Nothing, Releases, Wakes}, flagged_by, has_callbacks, item_next, tells_waiter, woken_by}, Close.{close_sleeper, first_asleep, first_held, orphan, told_of_clear, visit}, Move.{move_callbacks, move_closing, move_item}, Pop.shard_count, Send.{Mailbox, asks, first_letter, is_left_out, payer_of_send, posted, posting_of, send_cancel, send_root, sent}, State.{Desk, Things}, Thing.{aside, mailbox_of, with_mailbox, with_shard}}
+use Rattle.exec_rest.proofs.{Heeds.Heeds, Asides.{alarms_put, answers_put, barrier_put, global_less, inbox_put, mailbox_put, same, shard_put}, Continuing.{Nearly, light_after_close, light_after_letting_go, light_after_posting, light_cancels_left, light_tells_from, calm_to_queue, near_calm, near_desk_if, near_if, near_next_callback, calm_light}, Nearly.{Quiet, calmly, quiet, quietly}}
 
 -- A MESSAGE: of the wake word the batch alone changes
 posted_target : (message : MailMessage) (m : Mailbox) → (posted message m).word.target ≡ m.word.target

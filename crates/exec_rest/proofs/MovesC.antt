@@ -1,24 +1,11 @@
 -- Moves of a poll, which change nothing of waking.
-use Rattle.std.proofs.Common.{◌≡◌, ℕ, Bool, true, false, ◌==◌, Option, Some, None, refl, sym, ap, if◌then◌else◌, length, arith}
-use Rattle.std.proofs.lemmas.Bool.{true≢false}
+use Rattle.std.proofs.{Common.{◌≡◌, ℕ, Bool, true, false, ◌==◌, Option, Some, None, refl, sym, ap, if◌then◌else◌, length, arith}, lemmas.Bool.true≢false}
 use Rattle.exec_words.specs.Queue.{tail_of}
 use Rattle.exec_outcomes.specs.Accounts.{is_durable}
-use Rattle.exec_machine.specs.{declared.{config.{Configuration.Configuration, ScriptWord.ScriptWord}, event.Event.{Event, TheVariants.{Closed, Dedicated}}, state.{Operation.Operation, RequestPhase.RequestPhase, Waiting.Waiting}}, Choice.Choice.Plain, Requests.operation_asked, Tests.{is_idle, is_ready}, World.{Common, Task, request_of, sleeper_of, task_of, Own as Books}, Words.{next_word, newest_held, sleep_asked}}
-use Rattle.exec_machine.specs.declared.config.ScriptWord.TheVariants as script
-use Rattle.exec_machine.specs.declared.state.RequestPhase.TheVariants as phase
+use Rattle.exec_machine.specs.{declared.{config.{Configuration.Configuration, ScriptWord.{ScriptWord, ScriptWord as script}}, event.Event.{Event, TheVariants.{Closed, Dedicated}}, state.{Operation.Operation, RequestPhase.{RequestPhase, RequestPhase as phase}, Waiting.Waiting}}, Choice.Choice.Plain, Requests.operation_asked, Tests.{is_idle, is_ready}, World.{Common, Task, request_of, sleeper_of, task_of, Own as Books}, Words.{next_word, newest_held, sleep_asked}}
+use Rattle.exec_moves.specs.{declared.{handing.{AfterSend.{AfterSend, AfterSend as send}, AfterCancels.AfterCancels as cancels, AfterPush.AfterPush as push}, place.{InPoll.{InPoll, InPoll as poll}, Place.Place as at}}, Move.{move_act, move_look_at, move_poll, move_wake}, Poll.{Sight, Sight.{Asks, HearsRequest, HearsTimer, Here}, act, act_asked, act_by, after_pend, await, drop_newest, heard_by, pend, requeued_if, resume, sight_of, sight_of_act, sleep_for}, Send.{next_task, with_newcomer}, State.{Desk, Moved, Things, does, goes, queue_of}, Told.{has_number, lets_go_all}, Thing.{aside, set_alarms, with_answers}}
+use Rattle.exec_rest.proofs.{Heeds.Heeds, Asides.{alarms_put, gate_put, newcomer, own_queue, same, shard_put}, Continuing.{light_after_end, light_after_poll, calm_after_spawn, light_cancels_left, calm_desk_if, calm_if, light_next_pick, calm_to_queue, near_calm, calm_light}, Plain.{is_calm, is_mute}, Nearly.{Quiet, calmly, quiet, quiet_if}, MovesB.{posts, posts_root}}
 use Rattle.exec_machine.specs.declared.state.Waiting.TheVariants as waiting
-use Rattle.exec_moves.specs.{declared.{handing.AfterSend.AfterSend, place.InPoll.InPoll}, Move.{move_act, move_look_at, move_poll, move_wake}, Poll.{Sight, Sight.{Asks, HearsRequest, HearsTimer, Here}, act, act_asked, act_by, after_pend, await, drop_newest, heard_by, pend, requeued_if, resume, sight_of, sight_of_act, sleep_for}, Send.{next_task, with_newcomer}, State.{Desk, Moved, Things, does, goes, queue_of}, Told.{has_number, lets_go_all}, Thing.{aside, set_alarms, with_answers}}
-use Rattle.exec_moves.specs.declared.handing.AfterCancels.TheVariants as cancels
-use Rattle.exec_moves.specs.declared.handing.AfterPush.TheVariants as push
-use Rattle.exec_moves.specs.declared.handing.AfterSend.TheVariants as send
-use Rattle.exec_moves.specs.declared.place.InPoll.TheVariants as poll
-use Rattle.exec_moves.specs.declared.place.Place.TheVariants as at
-use Rattle.exec_rest.proofs.Heeds.{Heeds}
-use Rattle.exec_rest.proofs.Asides.{alarms_put, gate_put, newcomer, own_queue, same, shard_put}
-use Rattle.exec_rest.proofs.Continuing.{light_after_end, light_after_poll, calm_after_spawn, light_cancels_left, calm_desk_if, calm_if, light_next_pick, calm_to_queue, near_calm, calm_light}
-use Rattle.exec_rest.proofs.Plain.{is_calm, is_mute}
-use Rattle.exec_rest.proofs.Nearly.{Quiet, calmly, quiet, quiet_if}
-use Rattle.exec_rest.proofs.MovesB.{posts, posts_root}
 
 pub mute_if : (b : Bool) (e f : Event) → is_mute e ≡ true → is_mute f ≡ true → is_mute (if b then e else f) ≡ true
 mute_if true e f one other = one

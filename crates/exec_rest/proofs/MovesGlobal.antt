@@ -1,23 +1,10 @@
 -- What a worker heeds that pushes into the global queue, claims a worker, or signals one.
-use Rattle.std.proofs.Common.{◌≡◌, ℕ, ◌<◌, ◌==◌, Bool, true, false, List, ◌++◌, length, slice_set, Option, Some, None, refl, sym, ap, ◌∙◌, inl, inr, if◌then◌else◌, arith}
-use Rattle.std.proofs.lemmas.Bool.{true≢false, false≢true}
-use Rattle.std.proofs.lemmas.List.{get_or-set_same, length-set}
-use Rattle.std.specs.Prelude.{◌⊎◌}
-use Rattle.exec_words.specs.Idle.{Idle, is_in, lowest_of}
-use Rattle.exec_words.specs.Word.{asks_signal}
-use Rattle.exec_words.specs.declared.{idle.WorkerSet.WorkerSet}
-use Rattle.exec_machine.specs.{declared.{config.Configuration.Configuration, event.Event.{Event, TheVariants.{Rouse, Sleep, Turn}}}, Tests.{is_awake}, World.{Common, Own as Books, seat_of}}
-use Rattle.exec_moves.specs.{declared.{handing.{AfterClaim.AfterClaim, AfterPush.AfterPush, AfterSignal.AfterSignal, InGlobal.InGlobal, InSignal.InSignal}, place.Place.Place}, Callback.is_of_pool, Claim.{after_claim, after_nobody, claim_worker, claimed_if, idle_after, is_ring, raised_if, same_bools, set_of}, Global.{appended_if, empty_handed, has_any, one_count_less}, Move.{move_global, move_signal}, Parts.{after_push, after_signal}, Push.in_hand, State.{Desk, Things, does, goes, turns, word_of, wake_poll_of, queue_of}, Thing.{set_global, set_idle, with_global, with_idle, with_wake_poll}}
-use Rattle.exec_moves.specs.declared.handing.AfterClaim.TheVariants as claim
-use Rattle.exec_moves.specs.declared.handing.AfterSignal.TheVariants as signal
+use Rattle.std.{proofs.{Common.{◌≡◌, ℕ, ◌<◌, ◌==◌, Bool, true, false, List, ◌++◌, length, slice_set, Option, Some, None, refl, sym, ap, ◌∙◌, inl, inr, if◌then◌else◌, arith}, lemmas.{Bool.{true≢false, false≢true}, List.{get_or-set_same, length-set}}}, specs.Prelude.◌⊎◌}
+use Rattle.exec_words.specs.{Idle.{Idle, is_in, lowest_of}, Word.asks_signal, declared.idle.WorkerSet.WorkerSet}
+use Rattle.exec_machine.specs.{declared.{config.Configuration.Configuration, event.Event.{Event, TheVariants.{Rouse, Sleep, Turn}}}, Tests.is_awake, World.{Common, Own as Books, seat_of}}
+use Rattle.exec_moves.specs.{declared.{handing.{AfterClaim.{AfterClaim, AfterClaim as claim}, AfterPush.AfterPush, AfterSignal.{AfterSignal, AfterSignal as signal}, InGlobal.InGlobal, InSignal.{InSignal, InSignal as signals}}, place.Place.{Place, Place as at}}, Callback.is_of_pool, Claim.{after_claim, after_nobody, claim_worker, claimed_if, idle_after, is_ring, raised_if, same_bools, set_of}, Global.{appended_if, empty_handed, has_any, one_count_less}, Move.{move_global, move_signal}, Parts.{after_push, after_signal}, Push.in_hand, State.{Desk, Things, does, goes, turns, word_of, wake_poll_of, queue_of}, Thing.{set_global, set_idle, with_global, with_idle, with_wake_poll}}
+use Rattle.exec_rest.{specs.Places.{raises, signals as signals_next}, proofs.{Heeds.Heeds, Sides.{OfIdleSet, at_place, awake, is_tame, is_unreaped, itself, no_idles, no_words, of_all, put_cases, same_bits, still_rings}, Claims.{latched_words, lowest_there, none_there, raised_rings}, Continuing.{Nearly, near_after_push, near_after_signal, near_calm, near_if}}}
 use Rattle.exec_moves.specs.declared.handing.InGlobal.TheVariants as global
-use Rattle.exec_moves.specs.declared.handing.InSignal.TheVariants as signals
-use Rattle.exec_moves.specs.declared.place.Place.TheVariants as at
-use Rattle.exec_rest.specs.Places.{raises, signals as signals_next}
-use Rattle.exec_rest.proofs.Heeds.{Heeds}
-use Rattle.exec_rest.proofs.Sides.{OfIdleSet, at_place, awake, is_tame, is_unreaped, itself, no_idles, no_words, of_all, put_cases, same_bits, still_rings}
-use Rattle.exec_rest.proofs.Claims.{latched_words, lowest_there, none_there, raised_rings}
-use Rattle.exec_rest.proofs.Continuing.{Nearly, near_after_push, near_after_signal, near_calm, near_if}
 
 module _ (R : Type 0) (c : Configuration) (i : ℕ) (me : Books) (s : Common) (d : Desk) (x : Things) where
   abbrev pool : Bool

@@ -1,25 +1,11 @@
 -- What the moves do as far as waking goes, of a worker that looks whether it may wait: the loads, the tests, the look with its
 -- bit in the idle set, and the withdrawal of that.
-use Rattle.std.proofs.Common.{◌≡◌, ℕ, ◌+◌, ◌==◌, Bool, true, false, ◌&&◌, ◌||◌, List, [], ◌∷◌, refl, sym, ap, ◌∙◌, slice_set, if◌then◌else◌, nat_lt, arith}
-use Rattle.std.proofs.lemmas.{Bool.{true≢false, false≢true, and_parts}, List.{get_or-set_same, length-set}}
-use Rattle.std.specs.Prelude.{not, nat_le}
+use Rattle.std.{proofs.{Common.{◌≡◌, ℕ, ◌+◌, ◌==◌, Bool, true, false, ◌&&◌, ◌||◌, List, [], ◌∷◌, refl, sym, ap, ◌∙◌, slice_set, if◌then◌else◌, nat_lt, arith}, lemmas.{Bool.{true≢false, false≢true, and_parts}, List.{get_or-set_same, length-set}}}, specs.Prelude.{not, nat_le}}
 use Rattle.exec_words.specs.{Head.is_stealable_at, Idle.{Idle, is_in}, Queue.tail_of}
 use Rattle.exec_machine.specs.{declared.config.Configuration.Configuration, Tests.is_empty, World.{Common, Own as Books}, Deadlines.next_due}
-use Rattle.exec_moves.specs.declared.handing.AfterLeave.TheVariants as leave
-use Rattle.exec_moves.specs.declared.idling.AfterWait.TheVariants as next
-use Rattle.exec_moves.specs.declared.idling.InLook.TheVariants as looking
-use Rattle.exec_moves.specs.declared.idling.InScan.TheVariants as scanning
+use Rattle.exec_moves.specs.{declared.{handing.AfterLeave.AfterLeave as leave, idling.{AfterWait.{AfterWait as next, AfterWait}, InLook.{InLook as looking, InLook}, InScan.InScan as scanning, InRingWait.InRingWait as ring, InWordWait.InWordWait as word, Stay.Stay as stay}, place.{AfterService.AfterService as back, InLoads.{InLoads as load, InLoads}, Place.{Place as at, Place}, Round.{Round as round, Round}, Found.Found}}, Callback.{has_callbacks, serve, is_of_pool}, Global.one_count_more, Load.{has_come, has_mail, has_submissions, is_ready, leaves_for_turn, test_for_work}, Look.{after_withdrawal, past_own, look_at_mirror, looks_from, searching_if, withdraw}, Move.{move_loads, move_look}, State.{Desk, Own, Things, queue_of, word_of, turns}, Thing.{aside, set_idle, with_global, with_idle}, Wait.{first_search, read_clock, waits}}
+use Rattle.exec_rest.{specs.Places.{has_looked, is_published}, proofs.{Asides.{idle_put, same, word_put}, Continuing.{calm_after_return, light_leaves_for_turn, calm_light}, Heeds.Heeds, Plain.{calm, is_calm}, Waiting.{Knows, calm_loose, calms, either, goes_on, is_loose, is_out, may_go, nothing_known, not-true, onward, put_in, put_in_own, queue_put, steady, still_empty, taken_out, taken_out_own}}}
 use Rattle.exec_moves.specs.declared.idling.InSearch.TheVariants as searching
-use Rattle.exec_moves.specs.declared.idling.InRingWait.TheVariants as ring
-use Rattle.exec_moves.specs.declared.idling.InWordWait.TheVariants as word
-use Rattle.exec_moves.specs.declared.idling.Stay.TheVariants as stay
-use Rattle.exec_moves.specs.declared.place.AfterService.TheVariants as back
-use Rattle.exec_moves.specs.declared.place.InLoads.TheVariants as load
-use Rattle.exec_moves.specs.declared.place.Place.TheVariants as at
-use Rattle.exec_moves.specs.declared.place.Round.TheVariants as round
-use Rattle.exec_moves.specs.{declared.{idling.{AfterWait.AfterWait, InLook.InLook}, place.{Found.Found, InLoads.InLoads, Place.Place, Round.Round}}, Callback.{has_callbacks, serve, is_of_pool}, Global.one_count_more, Load.{has_come, has_mail, has_submissions, is_ready, leaves_for_turn, test_for_work}, Look.{after_withdrawal, past_own, look_at_mirror, looks_from, searching_if, withdraw}, Move.{move_loads, move_look}, State.{Desk, Own, Things, queue_of, word_of, turns}, Thing.{aside, set_idle, with_global, with_idle}, Wait.{first_search, read_clock, waits}}
-use Rattle.exec_rest.specs.Places.{has_looked, is_published}
-use Rattle.exec_rest.proofs.{Asides.{idle_put, same, word_put}, Continuing.{calm_after_return, light_leaves_for_turn, calm_light}, Heeds.Heeds, Plain.{calm, is_calm}, Waiting.{Knows, calm_loose, calms, either, goes_on, is_loose, is_out, may_go, nothing_known, not-true, onward, put_in, put_in_own, queue_put, steady, still_empty, taken_out, taken_out_own}}
 
 -- A QUEUE THAT IS EMPTY, by what was found
 

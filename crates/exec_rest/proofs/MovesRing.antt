@@ -1,20 +1,10 @@
 -- What a worker heeds in a wait on its ring.
-use Rattle.std.proofs.Common.{◌≡◌, ◌≢◌, ℕ, ◌+◌, Bool, true, false, ◌&&◌, ◌||◌, List, length, nat_lt, Option, refl, sym, ap, ◌∙◌, subst, inl, inr, if◌then◌else◌, arith}
-use Rattle.std.proofs.lemmas.Bool.{true≢false, false≢true}
-use Rattle.std.specs.Prelude.{not}
-use Rattle.exec_words.specs.Word.{is_idle_at}
-use Rattle.exec_words.specs.declared.word.PureWord.{PureWord}
+use Rattle.std.{proofs.{Common.{◌≡◌, ◌≢◌, ℕ, ◌+◌, Bool, true, false, ◌&&◌, ◌||◌, List, length, nat_lt, Option, refl, sym, ap, ◌∙◌, subst, inl, inr, if◌then◌else◌, arith}, lemmas.Bool.{true≢false, false≢true}}, specs.Prelude.not}
+use Rattle.exec_words.specs.{Word.is_idle_at, declared.word.PureWord.PureWord}
+use Rattle.exec_machine.specs.{declared.{config.Configuration.Configuration, event.Event.{Event, TheVariants.{Busy, Enter, Sleep, Turn}}}, Deadlines.next_due, Ranges.ring_size, Tests.is_empty, World.{Common, Own as Books, seat_of}, Choice.Choice.Plain}
+use Rattle.exec_moves.specs.{declared.{idling.{AfterWait.{AfterWait, AfterWait as next}, InRingWait.{InRingWait, InRingWait as ring}, Stay.Stay}, place.Place.{Place, Place as at}}, Callback.{is_full, is_of_pool}, Load.{has_come, has_submissions}, Move.move_ring_wait, Serve.{Ring, entered}, State.{Desk, Moved, Own, Things, WakePoll, does, taken_in, turns, word_of, wake_poll_of}, Submit.with_poll, Thing.{aside, ring_of, set_wake_poll, with_ring, with_word}, Wait.{after_wait, disarmed, enter_full_ring, enter_ring, has_completion, sleep}}
+use Rattle.exec_rest.{specs.Places.{is_abed, waits_on}, proofs.{Heeds.{Heeds, Rings}, Sides.{Keeps, at_place, awake, is_tame, is_unreaped, keeps, of_all, unreaped}, Stays.{IsOff, idle_unlatched, off_rings, off_ring, on_ring, own_rings, own_words, ring_off, ring_quiet, ring_withdrawing, same_latch, stay_idles, stay_itself, stay_rings, stay_words}, Polled.{keeps_taken, more_others, polled_by_enter}}}
 use Rattle.exec_words.specs.declared.word.WaitTarget.TheVariants as target
-use Rattle.exec_machine.specs.{declared.{config.Configuration.Configuration, event.Event.{Event, TheVariants.{Busy, Enter, Sleep, Turn}}}, Deadlines.next_due, Ranges.ring_size, Tests.{is_empty}, World.{Common, Own as Books, seat_of}, Choice.Choice.{Plain}}
-use Rattle.exec_moves.specs.{declared.{idling.{AfterWait.AfterWait, InRingWait.InRingWait, Stay.Stay}, place.Place.Place}, Callback.{is_full, is_of_pool}, Load.{has_come, has_submissions}, Move.{move_ring_wait}, Serve.{Ring, entered}, State.{Desk, Moved, Own, Things, WakePoll, does, taken_in, turns, word_of, wake_poll_of}, Submit.{with_poll}, Thing.{aside, ring_of, set_wake_poll, with_ring, with_word}, Wait.{after_wait, disarmed, enter_full_ring, enter_ring, has_completion, sleep}}
-use Rattle.exec_moves.specs.declared.idling.AfterWait.TheVariants as next
-use Rattle.exec_moves.specs.declared.idling.InRingWait.TheVariants as ring
-use Rattle.exec_moves.specs.declared.place.Place.TheVariants as at
-use Rattle.exec_rest.specs.Places.{is_abed, waits_on}
-use Rattle.exec_rest.proofs.Heeds.{Heeds, Rings}
-use Rattle.exec_rest.proofs.Sides.{Keeps, at_place, awake, is_tame, is_unreaped, keeps, of_all, unreaped}
-use Rattle.exec_rest.proofs.Stays.{IsOff, idle_unlatched, off_rings, off_ring, on_ring, own_rings, own_words, ring_off, ring_quiet, ring_withdrawing, same_latch, stay_idles, stay_itself, stay_rings, stay_words}
-use Rattle.exec_rest.proofs.Polled.{keeps_taken, more_others, polled_by_enter}
 
 waits : target.Ring ≢ target.None
 waits h = cc

@@ -3,12 +3,8 @@
 use Rattle.std.proofs.Common.{◌≡◌, ℕ, ◌==◌, Bool, true, false, [], take, drop, refl, ap, ◌∙◌, if◌then◌else◌, nat_lt, arith}
 use Rattle.exec_words.specs.{declared.head.Head.Head, Generator.stirred, Head.{claim_at, claimed_head}, Queue.{Queue, claimed, head_of, released, room_of, tail_of}}
 use Rattle.exec_machine.specs.{declared.config.Configuration.Configuration, World.{Common, Own as Books}}
-use Rattle.exec_moves.specs.declared.idling.InLook.TheVariants as looking
-use Rattle.exec_moves.specs.declared.idling.InScan.TheVariants as scanning
-use Rattle.exec_moves.specs.declared.place.Place.TheVariants as at
-use Rattle.exec_moves.specs.{declared.{idling.{InScan.InScan, InSearch.InSearch, Scan.Scan}, place.Place.Place}, Move.{move_search, move_scan}, Pop.same_head, Search.{begun_scan, from_of, half, judge_head, judge_tail, looks_at, past, past_own_queue}, State.{Desk, Things, queue_of, turns}, Thing.with_queue}
-use Rattle.exec_rest.proofs.{Asides.{own_queue, same}, Continuing.{calm_light, light_leaves_for_turn}, Heeds.Heeds, Waiting.{calms, either, goes_on, may_go, queue_put, still_empty}}
-use Rattle.exec_rest.proofs.BareMoves.{none_dropped}
+use Rattle.exec_moves.specs.{declared.{idling.{InLook.InLook as looking, InScan.{InScan as scanning, InScan}, InSearch.InSearch, Scan.Scan}, place.Place.{Place as at, Place}}, Move.{move_search, move_scan}, Pop.same_head, Search.{begun_scan, from_of, half, judge_head, judge_tail, looks_at, past, past_own_queue}, State.{Desk, Things, queue_of, turns}, Thing.with_queue}
+use Rattle.exec_rest.proofs.{Asides.{own_queue, same}, Continuing.{calm_light, light_leaves_for_turn}, Heeds.Heeds, Waiting.{calms, either, goes_on, may_go, queue_put, still_empty}, BareMoves.none_dropped}
 
 module _ (c : Configuration) (i : ℕ) where
   -- a worker that scans goes on to scan, or to the look

@@ -1,20 +1,9 @@
 -- What a worker heeds in a service.
-use Rattle.std.proofs.Common.{◌≡◌, ℕ, Bool, true, false, List, ◌∷◌, Option, Some, None, refl, sym, inl, inr, if◌then◌else◌, [], arith}
-use Rattle.std.proofs.lemmas.Bool.{false≢true}
-use Rattle.std.specs.Prelude.{◌⊎◌}
+use Rattle.std.{proofs.{Common.{◌≡◌, ℕ, Bool, true, false, List, ◌∷◌, Option, Some, None, refl, sym, inl, inr, if◌then◌else◌, [], arith}, lemmas.Bool.false≢true}, specs.Prelude.◌⊎◌}
 use Rattle.exec_outcomes.specs.declared.outcome.Outcome.{Outcome}
-use Rattle.exec_machine.specs.{declared.{config.Configuration.Configuration, event.Event.{Event, TheVariants.{Busy, Cancel, Enter, Fire, Rouse, Serve, Sleep, Stage}}}, Choice.Choice.{Plain}, Tests.{is_awake}, World.{Common, Own as Books, seat_of}}
-use Rattle.exec_moves.specs.{declared.place.{AfterPermit.AfterPermit, InService.InService, Place.Place, Reaping.Reaping, Service.Service}, Claim.{raised_if}, Move.{move_service, move_submit}, Serve.{after_permit, end_service, enter_last, first_to_fire, reap, sample, signal, unlatched}, State.{Desk, Moved, Things, WakePoll, dropped, gate_of, taken_in, word_of, wake_poll_of}, Submit.{Due, Due.{AtGate, Cancels, Ends, Enrols, Expires, Flushes, Stages}, after_grant, due_next, granted_at, stage_next, try_gate}, Thing.{aside, ring_of, set_gate, set_wake_poll, with_gate, with_ring, with_word}}
-use Rattle.exec_moves.specs.declared.place.InService.TheVariants as step
-use Rattle.exec_moves.specs.declared.place.Place.TheVariants as at
-use Rattle.exec_rest.specs.Places.{raises}
-use Rattle.exec_rest.proofs.Heeds.{Heeds, landed_after}
-use Rattle.exec_rest.proofs.Plain.{is_mute}
-use Rattle.exec_rest.proofs.Sides.{Keeps, at_place, awake, is_tame, itself, mute_tame, mute_unreaped, keeps, near_rings, no_idles, no_words, of_all, some_none, still_rings}
-use Rattle.exec_rest.proofs.Stays.{own_rings, own_words}
-use Rattle.exec_rest.proofs.Claims.{latched_words, raised_rings}
-use Rattle.exec_rest.proofs.Continuing.{Nearly, calm_after_service, near_calm, near_desk_if}
-use Rattle.exec_rest.proofs.Polled.{keeps_dropped, keeps_dropped_all, keeps_taken}
+use Rattle.exec_machine.specs.{declared.{config.Configuration.Configuration, event.Event.{Event, TheVariants.{Busy, Cancel, Enter, Fire, Rouse, Serve, Sleep, Stage}}}, Choice.Choice.Plain, Tests.is_awake, World.{Common, Own as Books, seat_of}}
+use Rattle.exec_moves.specs.{declared.place.{AfterPermit.AfterPermit, InService.{InService, InService as step}, Place.{Place, Place as at}, Reaping.Reaping, Service.Service}, Claim.raised_if, Move.{move_service, move_submit}, Serve.{after_permit, end_service, enter_last, first_to_fire, reap, sample, signal, unlatched}, State.{Desk, Moved, Things, WakePoll, dropped, gate_of, taken_in, word_of, wake_poll_of}, Submit.{Due, Due.{AtGate, Cancels, Ends, Enrols, Expires, Flushes, Stages}, after_grant, due_next, granted_at, stage_next, try_gate}, Thing.{aside, ring_of, set_gate, set_wake_poll, with_gate, with_ring, with_word}}
+use Rattle.exec_rest.{specs.Places.raises, proofs.{Heeds.{Heeds, landed_after}, Plain.is_mute, Sides.{Keeps, at_place, awake, is_tame, itself, mute_tame, mute_unreaped, keeps, near_rings, no_idles, no_words, of_all, some_none, still_rings}, Stays.{own_rings, own_words}, Claims.{latched_words, raised_rings}, Continuing.{Nearly, calm_after_service, near_calm, near_desk_if}, Polled.{keeps_dropped, keeps_dropped_all, keeps_taken}}}
 
 module _ (R : Type 0) (c : Configuration) (i : ℕ) (me : Books) (s : Common) (d : Desk) (x : Things) (v : Service) where
   abbrev inside : InService → Place

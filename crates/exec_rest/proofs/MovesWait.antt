@@ -1,19 +1,11 @@
 -- What a worker heeds in its two waits.
-use Rattle.std.proofs.Common.{◌≡◌, ◌≢◌, ℕ, ◌-◌, Bool, true, false, nat_lt, Option, Some, None, refl, sym, ◌∙◌, if◌then◌else◌}
-use Rattle.std.proofs.lemmas.Bool.{true≢false, false≢true}
+use Rattle.std.proofs.{Common.{◌≡◌, ◌≢◌, ℕ, ◌-◌, Bool, true, false, nat_lt, Option, Some, None, refl, sym, ◌∙◌, if◌then◌else◌}, lemmas.Bool.{true≢false, false≢true}}
 use Rattle.exec_base.specs.Spinner.{after_hit, after_miss}
-use Rattle.exec_words.specs.Word.{is_idle_at}
-use Rattle.exec_words.specs.declared.word.PureWord.{PureWord}
-use Rattle.exec_words.specs.declared.word.WaitTarget.TheVariants as target
+use Rattle.exec_words.specs.{Word.is_idle_at, declared.word.PureWord.PureWord}
 use Rattle.exec_machine.specs.{declared.{config.Configuration.Configuration, event.Event.{Event, TheVariants.{Sleep, Turn}}}, Deadlines.next_due, World.{Common, Own as Books, seat_of}}
-use Rattle.exec_moves.specs.{declared.{idling.{InWordWait.InWordWait}, place.Place.Place}, Callback.{is_of_pool}, Load.{has_come, has_mail}, Move.{move_word_wait}, State.{Desk, Things, does, turns, word_of, wake_poll_of}, Thing.{set_word, with_word}, Wait.{after_sleep, disarmed, hit, noting_sleep, sleep, withdraws}}
-use Rattle.exec_moves.specs.declared.idling.AfterWait.TheVariants as next
-use Rattle.exec_moves.specs.declared.idling.InWordWait.TheVariants as word
-use Rattle.exec_moves.specs.declared.place.Place.TheVariants as at
-use Rattle.exec_rest.specs.Places.{is_abed, is_withdrawing, waits_on}
-use Rattle.exec_rest.proofs.Heeds.{Heeds}
-use Rattle.exec_rest.proofs.Sides.{at_place, awake, is_tame, is_unreaped, keeps, of_all, unreaped}
-use Rattle.exec_rest.proofs.Stays.{IsOff, Stays, off_rings, idle_unlatched, off_word, on_word, own_words, same_latch, stay_idles, stay_itself, stay_rings, word_off, word_quiet, word_withdrawing}
+use Rattle.exec_moves.specs.{declared.{idling.{InWordWait.{InWordWait, InWordWait as word}, AfterWait.AfterWait as next}, place.Place.{Place, Place as at}}, Callback.is_of_pool, Load.{has_come, has_mail}, Move.move_word_wait, State.{Desk, Things, does, turns, word_of, wake_poll_of}, Thing.{set_word, with_word}, Wait.{after_sleep, disarmed, hit, noting_sleep, sleep, withdraws}}
+use Rattle.exec_rest.{specs.Places.{is_abed, is_withdrawing, waits_on}, proofs.{Heeds.Heeds, Sides.{at_place, awake, is_tame, is_unreaped, keeps, of_all, unreaped}, Stays.{IsOff, Stays, off_rings, idle_unlatched, off_word, on_word, own_words, same_latch, stay_idles, stay_itself, stay_rings, word_off, word_quiet, word_withdrawing}}}
+use Rattle.exec_words.specs.declared.word.WaitTarget.TheVariants as target
 
 module _ (R : Type 0) (i : ℕ) (s : Common) (d : Desk) (x : Things) where
   abbrev pool : Bool

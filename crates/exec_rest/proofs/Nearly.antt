@@ -1,11 +1,8 @@
 -- Moves that change nothing of waking, where they may lead to a place of the callbacks' ends too.
 use Rattle.std.proofs.Common.{◌≡◌, ℕ, Bool, true, false, length, Option, None, if◌then◌else◌, arith}
-use Rattle.exec_machine.specs.{declared.event.Event.{TheVariants.{Dedicated, End, Sleep}}, World.{Common, seat_of}}
-use Rattle.exec_moves.specs.{declared.place.Place.Place, State.{Desk, Moved, Things}, Thing.{puts}}
-use Rattle.exec_rest.specs.Places.{owes, owes_nothing, raises, signals}
-use Rattle.exec_rest.proofs.Heeds.{Heeds, landed_after}
-use Rattle.exec_rest.proofs.Plain.{Aside, Calm, calm, is_calm, is_mute}
-use Rattle.exec_rest.proofs.Continuing.{Nearly, near_calm}
+use Rattle.exec_machine.specs.{declared.event.Event.TheVariants.{Dedicated, End, Sleep}, World.{Common, seat_of}}
+use Rattle.exec_moves.specs.{declared.place.Place.Place, State.{Desk, Moved, Things}, Thing.puts}
+use Rattle.exec_rest.{specs.Places.{owes, owes_nothing, raises, signals}, proofs.{Heeds.{Heeds, landed_after}, Plain.{Aside, Calm, calm, is_calm, is_mute}, Continuing.{Nearly, near_calm}}}
 
 -- what such a move does, from wherever
 pub record Quiet (i : ℕ) (s : Common) (x : Things) (m : Moved Things) : Type 0 where

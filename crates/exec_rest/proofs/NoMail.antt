@@ -2,9 +2,8 @@
 -- it has applied, unless it sleeps while it closes.
 use Rattle.std.proofs.Common.{◌≡◌, ℕ, true, false, [], inl, inr, arith}
 use Rattle.exec_machine.specs.{declared.config.Configuration.Configuration, Progress.all_asleep, Tests.is_open, World.seat_of}
-use Rattle.exec_moves.specs.{declared.{place.Place.Place}, Plays.{Playing, desk_of}, State.inbox_of}
-use Rattle.exec_rest.specs.{AtRest.stays_closing, Places.is_abed, Posted.{IsPosted, has_tested}, Rested.{IsRestful, place_at, sleeps}}
-use Rattle.exec_rest.proofs.Rest.{none_or_some, unlatched, unsignalled}
+use Rattle.exec_moves.specs.{declared.place.Place.Place, Plays.{Playing, desk_of}, State.inbox_of}
+use Rattle.exec_rest.{specs.{AtRest.stays_closing, Places.is_abed, Posted.{IsPosted, has_tested}, Rested.{IsRestful, place_at, sleeps}}, proofs.Rest.{none_or_some, unlatched, unsignalled}}
 
 pub no_mail : (c : Configuration) (x : Playing) → IsRestful c x → IsPosted c x → all_asleep x.world ≡ true → (i : ℕ) → sleeps c x i ≡ true → inbox_of x.things i ≡ []
 no_mail c x held told all i asleep = elim (none_or_some (inbox_of x.things i)) [

@@ -1,11 +1,9 @@
 -- Steps of the clock, the kernel and the peers send no message and take none; and no message is there in the first state.
-use Rattle.std.proofs.Common.{◌≡◌, ℕ, zero, suc, true, List, [], get_or, set, refl, sym, ap, ◌∙◌, subst, inl, inr, arith}
-use Rattle.std.proofs.lemmas.Bool.{true≢false, false≢true}
+use Rattle.std.proofs.{Common.{◌≡◌, ℕ, zero, suc, true, List, [], get_or, set, refl, sym, ap, ◌∙◌, subst, inl, inr, arith}, lemmas.Bool.{true≢false, false≢true}}
 use Rattle.exec_words.specs.declared.word.PureWord.{PureWord}
 use Rattle.exec_machine.specs.{declared.{config.Configuration.Configuration, state.MailMessage.MailMessage, step.Action.Action}, Callers.is_enabled, Progress.Plan}
 use Rattle.exec_moves.specs.{Plays.{Playing, by_action, desk_of, first_desk, first_desks, first_playing}, State.{Desk, inbox_of, no_word, word_of}}
-use Rattle.exec_rest.specs.{Posted.{IsNumbered, IsPosted, IsTold, has_tested, is_early}, Rested.{IsLaidOut, IsRestful}}
-use Rattle.exec_rest.proofs.{CallHeeds.set_at, CallMail.numbered_like, First.{awake_first, not_there, of_equal}, Others.{Beside, at_place, beside, is_other, latch_then, signalled_then}}
+use Rattle.exec_rest.{specs.{Posted.{IsNumbered, IsPosted, IsTold, has_tested, is_early}, Rested.{IsLaidOut, IsRestful}}, proofs.{CallHeeds.set_at, CallMail.numbered_like, First.{awake_first, not_there, of_equal}, Others.{Beside, at_place, beside, is_other, latch_then, signalled_then}}}
 
 -- what such a step leaves of what a worker knows of its mail
 record Unread (d d' : Desk) : Type 0 where

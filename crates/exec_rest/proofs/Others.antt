@@ -1,11 +1,6 @@
 -- Steps of the clock, the kernel and the peers: they move nobody, and let nobody sleep, and what lands is seen.
-use Rattle.std.proofs.Common.{◌≡◌, ℕ, zero, suc, ◌+◌, ◌<◌, ◌≤◌, ◌==◌, Bool, true, false, ◌||◌, List, [], ◌∷◌, ◌++◌, length, map, get_or, set, is_some, refl, sym, ap, ◌∙◌, subst, inl, inr, arith}
-use Rattle.std.proofs.lemmas.Bool.{false≢true, eqb-true, eqb-false, ltb-true, ltb-false, or_cases, or_left, or_right}
-use Rattle.std.proofs.lemmas.List.{get_or-set_same, get_or-set_other, set_past}
-use Rattle.std.specs.Prelude.{◌⊎◌, nat_lt, not}
-use Rattle.exec_machine.specs.{declared.{config.Configuration.Configuration, state.Rest.{Rest, TheVariants.{Awake}}, step.Action.Action}, Callers.{is_enabled, is_half_done}, Deadlines.roused_at, Tests.{has_ended, is_awake, is_empty}, World.{Seat, no_seat, request_of, seat_of}}
-use Rattle.exec_machine.specs.declared.step.Action.TheVariants as action
-use Rattle.exec_machine.specs.declared.state.Call.TheVariants as call
+use Rattle.std.{proofs.{Common.{◌≡◌, ℕ, zero, suc, ◌+◌, ◌<◌, ◌≤◌, ◌==◌, Bool, true, false, ◌||◌, List, [], ◌∷◌, ◌++◌, length, map, get_or, set, is_some, refl, sym, ap, ◌∙◌, subst, inl, inr, arith}, lemmas.{Bool.{false≢true, eqb-true, eqb-false, ltb-true, ltb-false, or_cases, or_left, or_right}, List.{get_or-set_same, get_or-set_other, set_past}}}, specs.Prelude.{◌⊎◌, nat_lt, not}}
+use Rattle.exec_machine.specs.{declared.{config.Configuration.Configuration, state.{Rest.{Rest, TheVariants.Awake}, Call.Call as call}, step.Action.{Action, Action as action}}, Callers.{is_enabled, is_half_done}, Deadlines.roused_at, Tests.{has_ended, is_awake, is_empty}, World.{Seat, no_seat, request_of, seat_of}}
 use Rattle.exec_moves.specs.{declared.{handing.CallPlace.CallPlace, place.Place.Place}, Call.no_call, Plays.{Playing, by_action, caller_of, desk_of, first_desk, last_told}, State.{Desk, WakePoll, no_queue, no_wake_poll, no_word, passed, queue_of, wake_poll_of}}
 use Rattle.exec_rest.specs.{Places.{asked_for_poll, call_owes, call_raises, call_signals, has_looked, is_abed, is_dry, is_in_call, is_pooled, is_published, is_to_enter, is_to_sleep_on_ring, is_withdrawing, owes, owes_nothing, raises, signals, waits_on}, Rested.{IsLaidOut, IsOwed, IsRaised, IsRestful, IsSignalled, Someone, has_bit, is_in_pool, is_latched, is_told, place_at, poll_at, sleeps}}
 

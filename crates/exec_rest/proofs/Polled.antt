@@ -1,7 +1,5 @@
 -- What an enter and a reaping do to the wake poll of a ring, and what that tells the worker.
-use Rattle.std.proofs.Common.{◌≡◌, ℕ, ◌+◌, Bool, true, ◌||◌, List, ◌∷◌, nat_lt, Option, None, arith, if◌then◌else◌, []}
-use Rattle.std.proofs.lemmas.Bool.{false≢true, ltb-true, lt-ltb, le-leb}
-use Rattle.std.specs.Prelude.{is_some}
+use Rattle.std.{proofs.{Common.{◌≡◌, ℕ, ◌+◌, Bool, true, ◌||◌, List, ◌∷◌, nat_lt, Option, None, arith, if◌then◌else◌, []}, lemmas.Bool.{false≢true, ltb-true, lt-ltb, le-leb}}, specs.Prelude.is_some}
 use Rattle.exec_moves.specs.State.{WakePoll, dropped, is_dropped, taken_in}
 use Rattle.exec_rest.proofs.Sides.{Keeps}
 

@@ -1,17 +1,9 @@
 -- No move but the taking of a batch and the closing of the mailbox changes how many batches a worker took.
-use Rattle.std.proofs.Common.{◌≡◌, ℕ, Bool, true, false, List, [], ◌∷◌, Option, Some, None, refl, ◌∙◌, ◌-◌, if◌then◌else◌, arith}
-use Rattle.std.proofs.lemmas.Bool.{true≢false}
-use Rattle.std.specs.Prelude.{length, slice_get}
+use Rattle.std.{proofs.{Common.{◌≡◌, ℕ, Bool, true, false, List, [], ◌∷◌, Option, Some, None, refl, ◌∙◌, ◌-◌, if◌then◌else◌, arith}, lemmas.Bool.true≢false}, specs.Prelude.{length, slice_get}}
 use Rattle.exec_task.specs.declared.drain.Drain.{Drain}
 use Rattle.exec_words.specs.{Queue.Queue, declared.word.PureWord.PureWord}
-use Rattle.exec_machine.specs.{declared.{config.{Configuration.Configuration}, event.Event.TheVariants.{Sleep, Turn}}, Deadlines.{next_due}, Requests.{outcome_given}, World.{Common, request_of, sleeper_of, Own as Books}}
-use Rattle.exec_moves.specs.declared.handing.{AfterKick.AfterKick, AfterPop.AfterPop, AfterPush.AfterPush, AfterSignal.AfterSignal, InGlobal.InGlobal, InKick.InKick, InPop.InPop, InPush.InPush, InSignal.InSignal}
-use Rattle.exec_moves.specs.declared.idling.{InLook.InLook, InRingWait.InRingWait, InScan.InScan, InSearch.InSearch, InWordWait.InWordWait, Stay.Stay}
-use Rattle.exec_moves.specs.declared.place.{InClosing.InClosing, InLoads.InLoads, InMail.InMail, InPick.InPick, InService.InService, Place.Place, Reaping.Reaping, Round.Round, Service.Service}
-use Rattle.exec_moves.specs.{Close.{close_sleeper, first_asleep, first_held, orphan, visit}, Move.{move_at, move_closing, move_global, move_kick, move_loads, move_look, move_mail, move_pick, move_pop, move_push, move_ring_wait, move_scan, move_search, move_service, move_signal, move_submit, move_word_wait}, Pop.{pops, shard_count}, Serve.{Ring, end_service, enter, first_to_fire, others_after_reap, reap, result_in}, State.{Desk, Things, WakePoll, does}, Submit.{Due}, Told.{woken_where_awaited}, Wait.{noting_sleep}}
-use Rattle.exec_moves.specs.declared.handing.InSignal.TheVariants as signals
-use Rattle.exec_moves.specs.declared.idling.InSearch.TheVariants as search
-use Rattle.exec_moves.specs.declared.place.Place.TheVariants as at
+use Rattle.exec_machine.specs.{declared.{config.Configuration.Configuration, event.Event.TheVariants.{Sleep, Turn}}, Deadlines.next_due, Requests.outcome_given, World.{Common, request_of, sleeper_of, Own as Books}}
+use Rattle.exec_moves.specs.{declared.{handing.{AfterKick.AfterKick, AfterPop.AfterPop, AfterPush.AfterPush, AfterSignal.AfterSignal, InGlobal.InGlobal, InKick.InKick, InPop.InPop, InPush.InPush, InSignal.{InSignal, InSignal as signals}}, idling.{InLook.InLook, InRingWait.InRingWait, InScan.InScan, InSearch.{InSearch, InSearch as search}, InWordWait.InWordWait, Stay.Stay}, place.{InClosing.InClosing, InLoads.InLoads, InMail.InMail, InPick.InPick, InService.InService, Place.{Place, Place as at}, Reaping.Reaping, Round.Round, Service.Service}}, Close.{close_sleeper, first_asleep, first_held, orphan, visit}, Move.{move_at, move_closing, move_global, move_kick, move_loads, move_look, move_mail, move_pick, move_pop, move_push, move_ring_wait, move_scan, move_search, move_service, move_signal, move_submit, move_word_wait}, Pop.{pops, shard_count}, Serve.{Ring, end_service, enter, first_to_fire, others_after_reap, reap, result_in}, State.{Desk, Things, WakePoll, does}, Submit.Due, Told.woken_where_awaited, Wait.noting_sleep}
 use Rattle.exec_rest.proofs.Counted.{Keeps, all_let_go, callbacks_kept, dropped, fired, if_ended, kept_if, moved_if, poll_kept, woken}
 
 -- the moves that do

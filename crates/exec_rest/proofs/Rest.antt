@@ -1,13 +1,9 @@
 -- Where all workers sleep, nobody has to do anything for others any more; and so nothing is left to be run.
-use Rattle.std.proofs.Common.{◌≡◌, ℕ, zero, suc, Bool, true, false, List, [], ◌∷◌, get_or, Option, Some, refl, sym, ap, ◌∙◌, inl, inr, arith}
-use Rattle.std.proofs.lemmas.Bool.{true≢false, false≢true, and_parts, false_from_ne_true, or_cases, not-true}
-use Rattle.std.specs.Prelude.{◌⊎◌, not}
-use Rattle.std.specs.List.{list_all}
-use Rattle.exec_machine.specs.{declared.config.Configuration.Configuration, Callers.{is_half_done, may_go_on}, Progress.{all_asleep, is_down}, Tests.{has_ended, is_open}, World.{seat_of}}
-use Rattle.exec_machine.specs.declared.state.Call.TheVariants as call
+use Rattle.std.{proofs.{Common.{◌≡◌, ℕ, zero, suc, Bool, true, false, List, [], ◌∷◌, get_or, Option, Some, refl, sym, ap, ◌∙◌, inl, inr, arith}, lemmas.Bool.{true≢false, false≢true, and_parts, false_from_ne_true, or_cases, not-true}}, specs.{Prelude.{◌⊎◌, not}, List.list_all}}
+use Rattle.exec_machine.specs.{declared.config.Configuration.Configuration, Callers.{is_half_done, may_go_on}, Progress.{all_asleep, is_down}, Tests.{has_ended, is_open}, World.seat_of, Same.is_none}
 use Rattle.exec_moves.specs.{declared.{handing.CallPlace.CallPlace, place.Place.Place}, Plays.{Playing, caller_of}}
-use Rattle.exec_machine.specs.Same.{is_none}
 use Rattle.exec_rest.specs.{AtRest.{IsPlaced, stays_closing}, Places.{call_owes, call_raises, call_signals, has_looked, is_abed, is_dry, is_in_call, is_published, is_withdrawing, owes, owes_nothing, raises, signals}, Rested.{IsLaidOut, IsOwed, IsPoolOpen, IsRaised, IsRestful, IsSignalled, NothingWaits, Someone, has_bit, is_in_pool, is_latched, place_at, sleeps}}
+use Rattle.exec_machine.specs.declared.state.Call.TheVariants as call
 
 -- a test that all in a list pass, and what stands past its end
 pub all_at : {X : Type 0} (test : X → Bool) (d : X) → test d ≡ true → (xs : List X) → list_all test xs ≡ true → (i : ℕ) → test (get_or xs i d) ≡ true

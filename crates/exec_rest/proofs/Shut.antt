@@ -1,16 +1,11 @@
 -- The global queue is closed only once the task set is: at first, and after each step of any party. Only worker zero has to close the queue
 -- next, and it does so by the very event that closes the set; the set stays closed.
-use Rattle.std.proofs.Common.{◌≡◌, ℕ, zero, suc, ◌==◌, Bool, true, false, ◌||◌, ◌&&◌, List, [], ◌∷◌, ◌++◌, Option, Some, None, get_or, set, refl, sym, ap, ◌∙◌, inl, inr, arith}
-use Rattle.std.proofs.lemmas.Bool.{false≢true, cases_Bool, or_left}
-use Rattle.std.specs.Prelude.{◌⊎◌, if◌then◌else◌}
-use Rattle.exec_machine.specs.declared.{config.Configuration.Configuration, event.Event.Event, state.{MailMessage.MailMessage, Next.Next, Waiting.Waiting}, step.Action.Action}
-use Rattle.exec_machine.specs.{After.{common_after, made_by, own_after}, Callers.{after_going_on, after_spawn_by_call, after_wake_by_call}, Choice.{Choice}, Closing.{after_clear, after_next, ends_by_clear}, Mail.{after_message, after_post, after_sending, is_left_out, is_root_message, own_after_apply}, Progress.Plan, Requests.{own_after_drop}, Run.first_owns, Tasks.{after_pend, after_wake, after_word, own_after_drops, own_after_over, own_after_waking_up, owes}, World.{Common, Own as Books, no_own, own_of, request_of, task_of}}
-use Rattle.exec_machine.specs.declared.event.Event.TheVariants as event
+use Rattle.std.{proofs.{Common.{◌≡◌, ℕ, zero, suc, ◌==◌, Bool, true, false, ◌||◌, ◌&&◌, List, [], ◌∷◌, ◌++◌, Option, Some, None, get_or, set, refl, sym, ap, ◌∙◌, inl, inr, arith}, lemmas.Bool.{false≢true, cases_Bool, or_left}}, specs.Prelude.{◌⊎◌, if◌then◌else◌}}
+use Rattle.exec_machine.specs.{declared.{config.Configuration.Configuration, event.Event.{Event, Event as event}, state.{MailMessage.MailMessage, Next.Next, Waiting.Waiting}, step.Action.Action}, After.{common_after, made_by, own_after}, Callers.{after_going_on, after_spawn_by_call, after_wake_by_call}, Choice.Choice, Closing.{after_clear, after_next, ends_by_clear}, Mail.{after_message, after_post, after_sending, is_left_out, is_root_message, own_after_apply}, Progress.Plan, Requests.own_after_drop, Run.first_owns, Tasks.{after_pend, after_wake, after_word, own_after_drops, own_after_over, own_after_waking_up, owes}, World.{Common, Own as Books, no_own, own_of, request_of, task_of}}
+use Rattle.exec_moves.specs.{Plays.{Playing, by_action, by_move, by_step, first_playing}, State.{Moved, Things}}
+use Rattle.exec_rest.{specs.AtRest.IsShut, proofs.Sides.put_cases}
 use Rattle.exec_machine.specs.declared.state.MailMessage.TheVariants as message
 use Rattle.exec_machine.specs.declared.state.Next.TheVariants as next
-use Rattle.exec_moves.specs.{Plays.{Playing, by_action, by_move, by_step, first_playing}, State.{Moved, Things}}
-use Rattle.exec_rest.specs.AtRest.{IsShut}
-use Rattle.exec_rest.proofs.Sides.{put_cases}
 
 -- TWO FLAGS
 

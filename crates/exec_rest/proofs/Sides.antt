@@ -1,16 +1,10 @@
 -- What a move heeds, in four parts: of the idle set and the global queue, of the wake words, of the rings, and of itself; and what
 -- gives each part where the move changes nothing of that.
-use Rattle.std.proofs.Common.{◌≡◌, ◌≢◌, ℕ, zero, suc, ◌<◌, Bool, true, false, ◌&&◌, ◌||◌, List, ◌∷◌, length, slice_set, slice_index_or, Option, Some, None, refl, sym, ap, ◌∙◌, subst, inl, inr, arith, []}
-use Rattle.std.proofs.lemmas.Bool.{true≢false, false≢true}
-use Rattle.std.specs.Prelude.{◌⊎◌, is_some, not}
-use Rattle.exec_words.specs.Idle.{is_in}
-use Rattle.exec_words.specs.declared.word.WaitTarget.TheVariants as target
-use Rattle.exec_machine.specs.{declared.event.Event.{Event, TheVariants.{Dedicated, End, Reap, Rouse, Sleep}}, Tests.{is_awake, is_empty}, World.{Common, seat_of}}
+use Rattle.std.{proofs.{Common.{◌≡◌, ◌≢◌, ℕ, zero, suc, ◌<◌, Bool, true, false, ◌&&◌, ◌||◌, List, ◌∷◌, length, slice_set, slice_index_or, Option, Some, None, refl, sym, ap, ◌∙◌, subst, inl, inr, arith, []}, lemmas.Bool.{true≢false, false≢true}}, specs.Prelude.{◌⊎◌, is_some, not}}
+use Rattle.exec_words.specs.{Idle.is_in, declared.word.WaitTarget.WaitTarget as target}
+use Rattle.exec_machine.specs.{declared.event.Event.{Event, TheVariants.{Dedicated, End, Reap, Rouse, Sleep}}, Tests.{is_awake, is_empty}, World.{Common, seat_of}, Same.is_none}
 use Rattle.exec_moves.specs.{declared.place.Place.Place, Callback.is_of_pool, Claim.is_ring, State.{Desk, Moved, Things, WakePoll, queue_of, word_of, wake_poll_of, raised}, Thing.ring_of}
-use Rattle.exec_machine.specs.Same.{is_none}
-use Rattle.exec_rest.specs.Places.{has_looked, is_abed, is_dry, is_pooled, is_published, is_withdrawing, owes, raises, signals, waits_on}
-use Rattle.exec_rest.proofs.Heeds.{Heeds, Rings, landed_after, ring_after}
-use Rattle.exec_rest.proofs.{Continuing.{Nearly}, Plain.is_mute}
+use Rattle.exec_rest.{specs.Places.{has_looked, is_abed, is_dry, is_pooled, is_published, is_withdrawing, owes, raises, signals, waits_on}, proofs.{Heeds.{Heeds, Rings, landed_after, ring_after}, Continuing.Nearly, Plain.is_mute}}
 
 pub some_none : {T : Type 0} {a : T} → Some a ≡ None → ⊥
 some_none h = true≢false (ap (λ o. not (is_none o)) h)

@@ -1,16 +1,9 @@
 -- What a move heeds that leads from a wait on or out of it, and changes the own wake word or the own wake poll alone.
-use Rattle.std.proofs.Common.{◌≡◌, ◌≢◌, ℕ, ◌<◌, Bool, true, false, length, slice_set, Option, None, refl, ap, ◌∙◌, inl, inr, if◌then◌else◌, arith}
-use Rattle.std.proofs.lemmas.Bool.{true≢false, false≢true}
-use Rattle.std.proofs.lemmas.List.{get_or-set_same, get_or-set_other}
-use Rattle.exec_words.specs.Word.{is_idle_at}
-use Rattle.exec_words.specs.declared.word.PureWord.{PureWord}
-use Rattle.exec_words.specs.declared.word.WaitTarget.TheVariants as target
-use Rattle.exec_machine.specs.{declared.event.Event.{TheVariants.{Sleep}}, World.{Common, seat_of}}
-use Rattle.exec_moves.specs.{declared.{idling.{AfterWait.AfterWait, InRingWait.InRingWait, InWordWait.InWordWait, Stay.Stay}, place.Place.Place}, Callback.is_of_pool, State.{Desk, Moved, Things, WakePoll, no_word, queue_of, word_of, wake_poll_of}, Thing.{ring_of, set_word}, Wait.{after_wait, goes_back, withdraws}}
-use Rattle.exec_moves.specs.declared.place.Place.TheVariants as at
-use Rattle.exec_rest.specs.Places.{asked_for_poll, has_looked, is_abed, is_dry, is_pooled, is_published, is_to_enter, is_to_sleep_on_ring, is_withdrawing, owes, raises, signals, waits_on}
-use Rattle.exec_rest.proofs.Heeds.{Rings, landed_after, ring_after}
-use Rattle.exec_rest.proofs.Sides.{OfIdleSet, Itself, Keeps, OfRings, OfWords, is_tame, put_cases, some_none}
+use Rattle.std.proofs.{Common.{◌≡◌, ◌≢◌, ℕ, ◌<◌, Bool, true, false, length, slice_set, Option, None, refl, ap, ◌∙◌, inl, inr, if◌then◌else◌, arith}, lemmas.{Bool.{true≢false, false≢true}, List.{get_or-set_same, get_or-set_other}}}
+use Rattle.exec_words.specs.{Word.is_idle_at, declared.word.{PureWord.PureWord, WaitTarget.WaitTarget as target}}
+use Rattle.exec_machine.specs.{declared.event.Event.TheVariants.Sleep, World.{Common, seat_of}}
+use Rattle.exec_moves.specs.{declared.{idling.{AfterWait.AfterWait, InRingWait.InRingWait, InWordWait.InWordWait, Stay.Stay}, place.Place.{Place, Place as at}}, Callback.is_of_pool, State.{Desk, Moved, Things, WakePoll, no_word, queue_of, word_of, wake_poll_of}, Thing.{ring_of, set_word}, Wait.{after_wait, goes_back, withdraws}}
+use Rattle.exec_rest.{specs.Places.{asked_for_poll, has_looked, is_abed, is_dry, is_pooled, is_published, is_to_enter, is_to_sleep_on_ring, is_withdrawing, owes, raises, signals, waits_on}, proofs.{Heeds.{Rings, landed_after, ring_after}, Sides.{OfIdleSet, Itself, Keeps, OfRings, OfWords, is_tame, put_cases, some_none}}}
 
 -- from p to q the worker stays published or takes its bit out, and puts nothing into its run queue
 pub record Stays (pool : Bool) (p q : Place) : Type 0 where

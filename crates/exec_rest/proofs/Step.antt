@@ -1,12 +1,8 @@
 -- One step of any party keeps what holds, and so it holds along every log by moves.
-use Rattle.std.proofs.Common.{◌≡◌, ℕ, true, refl, sym, ◌∙◌, inl, inr, arith}
-use Rattle.std.proofs.lemmas.Bool.{cases_Bool}
-use Rattle.exec_machine.specs.{declared.{config.Configuration.Configuration, step.Action.Action}, Callers.is_enabled, World.{Common, Own as Books, own_of}}
-use Rattle.exec_machine.specs.declared.step.Action.TheVariants as action
-use Rattle.exec_moves.specs.{declared.place.Place.Place, Move.{move, move_at}, Plays.{Playing, by_action, by_move, by_step, desk_of}, State.{Desk, Moved, Things}}
-use Rattle.exec_moves.specs.declared.place.Place.TheVariants as at
-use Rattle.exec_rest.specs.{Posted.IsPosted, Rested.{IsLaidOut, IsRaised, IsRestful}}
-use Rattle.exec_rest.proofs.{Heeds.Heeds, MovesA.{begins, picks, takes_flag, pops_one, pushes, leaves, kicks, mails}, MovesB.{sends_cancel, closings, calls}, MovesC.{polls}, MovesLook.{loads, tests, reads, look, withdraws}, MovesScan.{scan, search as searches}, MovesGlobal.{claims, globals, signalled}, MovesWait.{word_wait}, MovesRing.{ring_wait}, MovesServe.{service}, FactsA.{answered_then, bits_then, calls_then, covered_then, dried_then, over_then, pooled_then, withdrawn}, Tested.{tested_then}, MailHeeds.{MailHeeds}, Mailing.{early_then, mail_heeds, numbered_then, posted_then}, CallMail.{posted_by_caller}, OtherMail.{posted_by_other}, FactsB.{abed_then, armed_then, asked_then, ended_then, entering_then, kept_then, polled_then, rung_then, sleeping_then}, Calls.{by_caller}, Others.{by_other}}
+use Rattle.std.proofs.{Common.{◌≡◌, ℕ, true, refl, sym, ◌∙◌, inl, inr, arith}, lemmas.Bool.cases_Bool}
+use Rattle.exec_machine.specs.{declared.{config.Configuration.Configuration, step.Action.{Action, Action as action}}, Callers.is_enabled, World.{Common, Own as Books, own_of}}
+use Rattle.exec_moves.specs.{declared.place.Place.{Place, Place as at}, Move.{move, move_at}, Plays.{Playing, by_action, by_move, by_step, desk_of}, State.{Desk, Moved, Things}}
+use Rattle.exec_rest.{specs.{Posted.IsPosted, Rested.{IsLaidOut, IsRaised, IsRestful}}, proofs.{Heeds.Heeds, MovesA.{begins, picks, takes_flag, pops_one, pushes, leaves, kicks, mails}, MovesB.{sends_cancel, closings, calls}, MovesC.polls, MovesLook.{loads, tests, reads, look, withdraws}, MovesScan.{scan, search as searches}, MovesGlobal.{claims, globals, signalled}, MovesWait.word_wait, MovesRing.ring_wait, MovesServe.service, FactsA.{answered_then, bits_then, calls_then, covered_then, dried_then, over_then, pooled_then, withdrawn}, Tested.tested_then, MailHeeds.MailHeeds, Mailing.{early_then, mail_heeds, numbered_then, posted_then}, CallMail.posted_by_caller, OtherMail.posted_by_other, FactsB.{abed_then, armed_then, asked_then, ended_then, entering_then, kept_then, polled_then, rung_then, sleeping_then}, Calls.by_caller, Others.by_other}}
 
 -- each move minds what others rely on
 pub heeds_at : (R : Type 0) (c : Configuration) (i : ℕ) (me : Books) (s : Common) (d : Desk) (x : Things) (p : Place) → d.place ≡ p → Heeds R i s d x (move_at c i me s d x p)

@@ -1,21 +1,10 @@
 -- Whose last test found nothing to do still has nothing to do: nobody comes to such a place but from the test or from another
 -- such place, and on the way nothing comes in.
-use Rattle.std.proofs.Common.{◌≡◌, ℕ, ◌<◌, Bool, true, false, ◌||◌, List, [], length, refl, sym, ◌∙◌, subst, inl, inr, if◌then◌else◌, arith}
-use Rattle.std.proofs.lemmas.Bool.{false≢true, cases_Bool, cases_eq}
-use Rattle.std.specs.Prelude.{not}
-use Rattle.exec_words.specs.{declared.word.PureWord.PureWord}
-use Rattle.exec_machine.specs.{declared.{config.{Configuration.Configuration}, event.Event.TheVariants.{Dedicated, Sleep, Turn}, state.{MailMessage.MailMessage}}, Callers.{is_enabled}, Deadlines.next_due, Tests.{has_ended, is_empty}, World.{Common, seat_of, own_of, Own as Books}}
-use Rattle.exec_machine.specs.declared.step.Action.TheVariants as action
-use Rattle.exec_moves.specs.declared.idling.{InLook.InLook, InRingWait.InRingWait, InScan.InScan, InSearch.InSearch, InWordWait.InWordWait, Stay.Stay}
-use Rattle.exec_moves.specs.declared.place.{Found.Found, Place.Place}
-use Rattle.exec_moves.specs.{Callback.{has_callbacks}, Load.{has_come, has_submissions, is_ready, leaves_for_turn, test_for_work}, Move.{move, move_at, move_look, move_ring_wait, move_scan, move_search, move_word_wait}, Plays.{Playing, by_move, desk_of}, State.{Desk, Moved, Own, Things, does, turns}, Wait.{noting_sleep}}
-use Rattle.exec_moves.specs.declared.idling.InSearch.TheVariants as search
-use Rattle.exec_moves.specs.declared.place.Place.TheVariants as at
-use Rattle.exec_rest.specs.{Posted.has_tested, Rested.{IsLaidOut, place_at}}
-use Rattle.exec_rest.proofs.Continuing.{light_leaves_for_turn, calm_light}
-use Rattle.exec_rest.proofs.{FactsA.seated, Frames.{desk_other, desk_own}}
-use Rattle.exec_rest.proofs.Away.{calm_untested}
-use Rattle.exec_rest.proofs.Untested.{is_test, untested}
+use Rattle.std.{proofs.{Common.{◌≡◌, ℕ, ◌<◌, Bool, true, false, ◌||◌, List, [], length, refl, sym, ◌∙◌, subst, inl, inr, if◌then◌else◌, arith}, lemmas.Bool.{false≢true, cases_Bool, cases_eq}}, specs.Prelude.not}
+use Rattle.exec_words.specs.declared.word.PureWord.{PureWord}
+use Rattle.exec_machine.specs.{declared.{config.Configuration.Configuration, event.Event.TheVariants.{Dedicated, Sleep, Turn}, state.MailMessage.MailMessage, step.Action.Action as action}, Callers.is_enabled, Deadlines.next_due, Tests.{has_ended, is_empty}, World.{Common, seat_of, own_of, Own as Books}}
+use Rattle.exec_moves.specs.{declared.{idling.{InLook.InLook, InRingWait.InRingWait, InScan.InScan, InSearch.{InSearch, InSearch as search}, InWordWait.InWordWait, Stay.Stay}, place.{Found.Found, Place.{Place, Place as at}}}, Callback.has_callbacks, Load.{has_come, has_submissions, is_ready, leaves_for_turn, test_for_work}, Move.{move, move_at, move_look, move_ring_wait, move_scan, move_search, move_word_wait}, Plays.{Playing, by_move, desk_of}, State.{Desk, Moved, Own, Things, does, turns}, Wait.noting_sleep}
+use Rattle.exec_rest.{specs.{Posted.has_tested, Rested.{IsLaidOut, place_at}}, proofs.{Continuing.{light_leaves_for_turn, calm_light}, FactsA.seated, Frames.{desk_other, desk_own}, Away.calm_untested, Untested.{is_test, untested}}}
 
 -- Nothing is to be done: the root isn't to be polled, and all that was taken is applied.
 abbrev pub IsClear : Desk → Type 0

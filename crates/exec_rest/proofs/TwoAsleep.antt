@@ -1,12 +1,8 @@
 -- Of the two workers of the worked examples: where they are, by their numbers, and that nobody has to do anything for others.
-use Rattle.std.proofs.Common.{◌≡◌, ℕ, zero, suc, Bool, true, false, ◌||◌, List, [], ◌∷◌, ◌++◌, length, Option, Some, None, refl, sym, ap, ◌∙◌, inl, inr, subst, arith}
-use Rattle.std.proofs.lemmas.Bool.{true≢false, false≢true}
-use Rattle.std.specs.Prelude.{◌⊎◌, ◌&&◌, ◌||◌, ◌<◌, is_some, slice_get}
-use Rattle.std.proofs.lemmas.Option.{none-some}
+use Rattle.std.{proofs.{Common.{◌≡◌, ℕ, zero, suc, Bool, true, false, ◌||◌, List, [], ◌∷◌, ◌++◌, length, Option, Some, None, refl, sym, ap, ◌∙◌, inl, inr, subst, arith}, lemmas.{Bool.{true≢false, false≢true}, Option.none-some}}, specs.Prelude.{◌⊎◌, ◌&&◌, ◌||◌, ◌<◌, is_some, slice_get}}
 use Rattle.exec_machine.specs.{declared.{config.Configuration.Configuration, state.Next.Next}, Progress.is_runnable, Tests.{has_ended, is_done}, World.{Task, own_of, seat_of}}
 use Rattle.exec_moves.specs.{declared.{handing.CallPlace.CallPlace, idling.InWordWait.InWordWait, place.Place.Place}, Call.no_call, Plays.{Playing, caller_of, desk_of}, State.{inbox_of, no_wake_poll, queue_of, word_of}}
-use Rattle.exec_rest.specs.{AtRest.{AreBare, AreFresh, IsAtRest, IsPlaced, IsShut, is_end, is_fed, is_given, is_idle, stays_closing}, Posted.{IsPosted, has_tested}, Examples.{rested, two_waiting, with_a_latch, with_a_message, with_a_runnable}, Places.{asked_for_poll, has_looked, is_abed, is_in_call, is_pooled, is_published, is_to_enter, is_to_sleep_on_ring, is_withdrawing, owes_nothing, waits_on}, Rested.{IsLaidOut, IsOwed, IsRaised, IsRestful, IsSignalled, NothingWaits, Someone, has_bit, is_in_pool, is_latched, place_at, poll_at, sleeps}}
-use Rattle.exec_rest.proofs.First.{of_equal}
+use Rattle.exec_rest.{specs.{AtRest.{AreBare, AreFresh, IsAtRest, IsPlaced, IsShut, is_end, is_fed, is_given, is_idle, stays_closing}, Posted.{IsPosted, has_tested}, Examples.{rested, two_waiting, with_a_latch, with_a_message, with_a_runnable}, Places.{asked_for_poll, has_looked, is_abed, is_in_call, is_pooled, is_published, is_to_enter, is_to_sleep_on_ring, is_withdrawing, owes_nothing, waits_on}, Rested.{IsLaidOut, IsOwed, IsRaised, IsRestful, IsSignalled, NothingWaits, Someone, has_bit, is_in_pool, is_latched, place_at, poll_at, sleeps}}, proofs.First.of_equal}
 
 abbrev two : Configuration
 two = two_waiting.config

@@ -1,19 +1,10 @@
 -- Nobody comes to a place of those to which the test for work leads but from the test, or from another such place.
-use Rattle.std.proofs.Common.{◌≡◌, ℕ, ◌-◌, Bool, true, false, List, [], ◌∷◌, length, Option, Some, None, refl, arith}
-use Rattle.std.proofs.lemmas.Bool.{true≢false}
-use Rattle.std.specs.Prelude.{slice_get}
+use Rattle.std.{proofs.{Common.{◌≡◌, ℕ, ◌-◌, Bool, true, false, List, [], ◌∷◌, length, Option, Some, None, refl, arith}, lemmas.Bool.true≢false}, specs.Prelude.slice_get}
 use Rattle.exec_task.specs.declared.drain.Drain.{Drain}
 use Rattle.exec_words.specs.{Queue.{Queue, head_of, tail_of}, Word.asks_signal}
-use Rattle.exec_machine.specs.{declared.{config.{Configuration.Configuration}}, Tests.{is_applied}, World.{Common, sleeper_of, Own as Books}}
-use Rattle.exec_moves.specs.declared.handing.{AfterKick.AfterKick, AfterPop.AfterPop, AfterPush.AfterPush, AfterSignal.AfterSignal, InGlobal.InGlobal, InKick.InKick, InPop.InPop, InPush.InPush, InSignal.InSignal}
-use Rattle.exec_moves.specs.declared.idling.{InRingWait.InRingWait}
-use Rattle.exec_moves.specs.declared.place.{InClosing.InClosing, InLoads.InLoads, InMail.InMail, InPick.InPick, InService.InService, Place.Place, Reaping.Reaping, Round.Round, Service.Service}
-use Rattle.exec_moves.specs.{Close.{close_sleeper, first_asleep, first_held, orphan, visit}, Move.{move_at, move_closing, move_global, move_kick, move_loads, move_mail, move_pick, move_pop, move_push, move_ring_wait, move_service, move_signal, move_submit}, Pop.{load_pop_head, pops, shard_count}, Serve.{end_service, first_to_fire, reap}, State.{Desk, Things, WakePoll, word_of}, Submit.{Due}}
-use Rattle.exec_moves.specs.declared.handing.InSignal.TheVariants as signals
-use Rattle.exec_moves.specs.declared.idling.Stay.TheVariants as stay
-use Rattle.exec_rest.specs.{Posted.has_tested}
-use Rattle.exec_rest.proofs.Continuing.{light_after_close, light_after_empty_pop, calm_after_fit, light_after_letting_go, light_after_pop, calm_after_return, calm_after_service, light_cancels_left, light_first_pick, light_judge_pop, light_polls, light_tells_from, calm_light}
-use Rattle.exec_rest.proofs.Away.{IsAway, away_claim, away_desk_if, away_if, away_kick, away_made_up, away_moved_if, away_push, away_signal, calls, calm_untested, polls, posts, posts_root}
+use Rattle.exec_machine.specs.{declared.config.Configuration.Configuration, Tests.is_applied, World.{Common, sleeper_of, Own as Books}}
+use Rattle.exec_moves.specs.{declared.{handing.{AfterKick.AfterKick, AfterPop.AfterPop, AfterPush.AfterPush, AfterSignal.AfterSignal, InGlobal.InGlobal, InKick.InKick, InPop.InPop, InPush.InPush, InSignal.{InSignal, InSignal as signals}}, idling.{InRingWait.InRingWait, Stay.Stay as stay}, place.{InClosing.InClosing, InLoads.InLoads, InMail.InMail, InPick.InPick, InService.InService, Place.Place, Reaping.Reaping, Round.Round, Service.Service}}, Close.{close_sleeper, first_asleep, first_held, orphan, visit}, Move.{move_at, move_closing, move_global, move_kick, move_loads, move_mail, move_pick, move_pop, move_push, move_ring_wait, move_service, move_signal, move_submit}, Pop.{load_pop_head, pops, shard_count}, Serve.{end_service, first_to_fire, reap}, State.{Desk, Things, WakePoll, word_of}, Submit.Due}
+use Rattle.exec_rest.{specs.Posted.has_tested, proofs.{Continuing.{light_after_close, light_after_empty_pop, calm_after_fit, light_after_letting_go, light_after_pop, calm_after_return, calm_after_service, light_cancels_left, light_first_pick, light_judge_pop, light_polls, light_tells_from, calm_light}, Away.{IsAway, away_claim, away_desk_if, away_if, away_kick, away_made_up, away_moved_if, away_push, away_signal, calls, calm_untested, polls, posts, posts_root}}}
 
 -- the test for work
 abbrev pub is_test : Place → Bool

@@ -1,14 +1,11 @@
 -- Moves of a worker that looks for something to do, or whether it may wait: between places at which its wake word and its ring
 -- are as at any other, and it does nothing for others.
-use Rattle.std.proofs.Common.{◌≡◌, ℕ, zero, suc, ◌<◌, Bool, true, false, ◌&&◌, List, [], ◌∷◌, length, refl, slice_set, slice_index_or, if◌then◌else◌, arith}
-use Rattle.std.proofs.lemmas.{Bool.{true≢false, false≢true, and_parts, cases_eq}, List.{get_or-set_other}}
-use Rattle.std.specs.Prelude.{◌⊎◌, not}
-pub use Rattle.std.proofs.lemmas.Bool.{not-true}
+use Rattle.std.{proofs.{Common.{◌≡◌, ℕ, zero, suc, ◌<◌, Bool, true, false, ◌&&◌, List, [], ◌∷◌, length, refl, slice_set, slice_index_or, if◌then◌else◌, arith}, lemmas.{Bool.{true≢false, false≢true, and_parts, cases_eq}, List.get_or-set_other}}, specs.Prelude.{◌⊎◌, not}}
 use Rattle.exec_words.specs.{Idle.is_in, Queue.Queue, Word.is_armed}
-use Rattle.exec_machine.specs.{World.{Common}}
+use Rattle.exec_machine.specs.World.{Common}
 use Rattle.exec_moves.specs.{declared.place.Place.Place, Callback.is_of_pool, State.{Desk, Moved, Things, no_queue, queue_of}, Thing.{set_idle, set_queue}}
-use Rattle.exec_rest.specs.Places.{asked_for_poll, has_looked, is_dry, is_pooled, is_published, is_to_enter, is_to_sleep_on_ring, owes_nothing, waits_on}
-use Rattle.exec_rest.proofs.{Heeds.{Heeds}, Plain.{Aside, Calm, calm, is_calm, is_mute}}
+use Rattle.exec_rest.{specs.Places.{asked_for_poll, has_looked, is_dry, is_pooled, is_published, is_to_enter, is_to_sleep_on_ring, owes_nothing, waits_on}, proofs.{Heeds.Heeds, Plain.{Aside, Calm, calm, is_calm, is_mute}}}
+pub use Rattle.std.proofs.lemmas.Bool.{not-true}
 
 -- BOOLS
 

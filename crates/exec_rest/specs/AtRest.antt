@@ -1,12 +1,10 @@
 -- NOTHING IS LEFT TO BE RUN where all workers sleep and no call is half done.
 use Rattle.std.specs.Prelude.{◌≡◌, ℕ, ◌<◌, Bool, true, false, ◌||◌, [], ◌++◌, length, slice_get, Some, None}
-use Rattle.exec_machine.specs.declared.state.Next.TheVariants as next
-use Rattle.exec_machine.specs.declared.state.TaskPhase.{TaskPhase}
-use Rattle.exec_machine.specs.declared.state.TaskPhase.TheVariants as phase
-use Rattle.exec_machine.specs.{declared.config.Configuration.Configuration, Progress.{all_asleep, is_runnable}, Tests.{has_ended, is_done, is_open}, World.{Task, own_of, seat_of}}
+use Rattle.exec_machine.specs.{declared.{state.TaskPhase.{TaskPhase, TaskPhase as phase}, config.Configuration.Configuration}, Progress.{all_asleep, is_runnable}, Tests.{has_ended, is_done, is_open}, World.{Task, own_of, seat_of}}
 use Rattle.exec_words.specs.Queue.{Queue}
 use Rattle.exec_moves.specs.{declared.{handing.AfterPush.AfterPush, idling.{InScan.InScan, Stay.Stay}, place.{InClosing.InClosing, InPoll.InPoll, Place.Place}}, Plays.{Playing, desk_of, caller_of}, State.{inbox_of, queue_of}}
 use Rattle.exec_rest.specs.{Places.{is_abed, is_in_call}, Rested.{IsLaidOut, IsPoolOpen, NothingWaits, is_in_pool, place_at}}
+use Rattle.exec_machine.specs.declared.state.Next.TheVariants as next
 
 -- WHAT IS SAID OF A LOG
 

@@ -1,11 +1,8 @@
 -- States to look at: two workers that sleep, and the same with a wake that was lost, or closed.
 use Rattle.std.specs.Prelude.{true, [], ◌∷◌, slice_set}
-use Rattle.exec_machine.specs.{Examples.usual, Progress.Plan, World.{Seat, seat_of}}
-use Rattle.exec_machine.specs.declared.config.ScriptWord.TheVariants as word
-use Rattle.exec_machine.specs.declared.state.MailMessage.TheVariants as message
-use Rattle.exec_machine.specs.declared.state.WorkerPhase.TheVariants as phase
-use Rattle.exec_machine.specs.declared.step.Step.TheVariants as step
+use Rattle.exec_machine.specs.{Examples.usual, Progress.Plan, World.{Seat, seat_of}, declared.{config.ScriptWord.ScriptWord as word, state.MailMessage.MailMessage as message, step.Step.Step as step}}
 use Rattle.exec_moves.specs.{Departures.played, Plays.{Playing, first_playing, log_by_moves}, State.no_word, Thing.{set_global, set_word}}
+use Rattle.exec_machine.specs.declared.state.WorkerPhase.TheVariants as phase
 
 -- two workers whose roots wait for a wake that nobody gives
 abbrev pub two_waiting : Plan

@@ -1,8 +1,7 @@
 -- What is known of a worker or a caller by its place, as far as others rely on it to look again, or are owed a signal.
 use Rattle.std.specs.Prelude.{ℕ, Bool, true, false, not, ◌&&◌, Option, Some, None}
 use Rattle.exec_machine.specs.Same.{is_none}
-use Rattle.exec_words.specs.declared.word.WaitTarget.{WaitTarget}
-use Rattle.exec_words.specs.declared.word.WaitTarget.TheVariants as target
+use Rattle.exec_words.specs.declared.word.WaitTarget.{WaitTarget, WaitTarget as target}
 use Rattle.exec_moves.specs.declared.{handing.{AfterClaim.AfterClaim, CallPlace.CallPlace, InGlobal.InGlobal, InSignal.InSignal}, idling.{AfterWait.AfterWait, InLook.InLook, InRingWait.InRingWait, InWordWait.InWordWait, Stay.Stay}, place.{InLoads.InLoads, InService.InService, Place.Place, Round.Round}}
 
 -- THE IDLE SET

@@ -4,9 +4,8 @@
 -- queue afterwards. So one of the two finds the other. A worker that was found has its bit taken out, its latch set and its
 -- wait ended, by steps one after the other; in between it is known who makes the next one.
 use Rattle.std.specs.Prelude.{◌≡◌, ◌≢◌, ℕ, ◌<◌, Bool, true, false, not, ◌&&◌, ◌||◌, ◌⊎◌, [], length, Some, is_some}
-use Rattle.exec_words.specs.Idle.{is_in}
-use Rattle.exec_words.specs.declared.word.WaitTarget.TheVariants as target
-use Rattle.exec_machine.specs.{declared.config.Configuration.Configuration, Callers.{may_go_on}, Tests.{has_ended, is_awake, is_empty}, World.{seat_of}}
+use Rattle.exec_words.specs.{Idle.is_in, declared.word.WaitTarget.WaitTarget as target}
+use Rattle.exec_machine.specs.{declared.config.Configuration.Configuration, Callers.may_go_on, Tests.{has_ended, is_awake, is_empty}, World.seat_of}
 use Rattle.exec_moves.specs.{declared.{handing.CallPlace.CallPlace, place.Place.Place}, Callback.is_of_pool, Plays.{Playing, desk_of, caller_of}, Serve.Ring, State.{WakePoll, queue_of, word_of, wake_poll_of}, Thing.ring_of, Wait.has_completion}
 use Rattle.exec_rest.specs.Places.{asked_for_poll, call_owes, call_raises, call_signals, has_looked, is_abed, is_dry, is_in_call, is_pooled, is_published, is_to_enter, is_to_sleep_on_ring, is_withdrawing, owes, owes_nothing, raises, signals, waits_on}
 

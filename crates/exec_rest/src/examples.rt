@@ -3,14 +3,8 @@
 ghost use Rattle.std.specs.Prelude.{◌≡◌, true, false, [], Some, None};
 ghost use Rattle.exec_words.specs.declared.idle.WorkerSet.{WorkerSet};
 ghost use Rattle.exec_machine.specs.Progress.{all_asleep};
-ghost use Rattle.exec_moves.specs.declared.handing.{AfterKick.AfterKick, AfterPush.AfterPush, AfterSignal.AfterSignal};
-ghost use Rattle.exec_moves.specs.declared.handing.AfterClaim.TheVariants as claim;
-ghost use Rattle.exec_moves.specs.declared.handing.InSignal.TheVariants as signal;
-ghost use Rattle.exec_moves.specs.declared.idling.{AfterWait.AfterWait, InRingWait.InRingWait};
-ghost use Rattle.exec_moves.specs.declared.idling.InWordWait.TheVariants as word;
-ghost use Rattle.exec_moves.specs.declared.idling.Stay.TheVariants as stay;
-ghost use Rattle.exec_moves.specs.declared.place.Place.TheVariants as at;
-ghost use Rattle.exec_rest.specs.{AtRest.{AreBare, AreFresh, IsAtRest, IsPlaced, IsShut}, Examples.{two_waiting, rested, with_a_runnable, with_a_latch, with_a_closed_set, with_a_message, with_an_end}, Places.{has_looked, is_dry, is_published, owes, raises, signals}, Posted.{IsPosted}, Rested.{IsPoolOpen, IsRestful, NothingWaits, has_bit, is_latched, place_at}};
+ghost use Rattle.exec_moves.specs.declared.{handing.{AfterKick.AfterKick, AfterPush.AfterPush, AfterSignal.AfterSignal, AfterClaim.AfterClaim as claim, InSignal.InSignal as signal}, idling.{AfterWait.AfterWait, InRingWait.InRingWait, InWordWait.InWordWait as word, Stay.Stay as stay}, place.Place.Place as at};
+ghost use Rattle.exec_rest.specs.{AtRest.{AreBare, AreFresh, IsAtRest, IsPlaced, IsShut}, Examples.{two_waiting, rested, with_a_runnable, with_a_latch, with_a_closed_set, with_a_message, with_an_end}, Places.{has_looked, is_dry, is_published, owes, raises, signals}, Posted.IsPosted, Rested.{IsPoolOpen, IsRestful, NothingWaits, has_bit, is_latched, place_at}};
 
 /// What is known of a worker by its place. Who waits on its wake word has put its bit into the idle set, found the global
 /// queue empty after that, and found its run queue empty. Who waits on its ring while it closes has no bit there. Who takes

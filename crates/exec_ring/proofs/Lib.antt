@@ -1,5 +1,2 @@
-pub mod Fillings
 pub mod Flights
-pub mod Pages
-pub mod Values
-mod SameWindows
+pub mod Stretches

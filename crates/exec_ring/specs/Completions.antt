@@ -1,7 +1,6 @@
 -- Completions: what their numbers say, and which are no operation's.
 use Rattle.std.specs.Prelude.{ℕ, Bool, true, not, ℤ, pos, negsuc, ◌+◌, ◌-◌, ◌==◌, ◌&&◌}
-use Rattle.exec_outcomes.specs.declared.outcome.OpResult.{OpResult}
-use Rattle.exec_outcomes.specs.declared.outcome.OpResult.TheVariants.{Count, Errno}
+use Rattle.exec_outcomes.specs.declared.outcome.OpResult.{OpResult, TheVariants.{Count, Errno}}
 use Rattle.exec_ring.specs.declared.completion.Completion.{Completion}
 
 -- a result as a number: an error number has a minus before it

@@ -1,13 +1,9 @@
 -- Rings for worked examples.
 use Rattle.std.specs.Prelude.{ℕ, true, [], ◌∷◌}
-use Rattle.exec_outcomes.specs.declared.outcome.OpResult.{OpResult}
-use Rattle.exec_outcomes.specs.declared.outcome.OpResult.TheVariants.{Count, Errno}
-use Rattle.exec_request.specs.declared.window.Opcode.TheVariants as opcode
+use Rattle.exec_outcomes.specs.declared.outcome.OpResult.{OpResult, TheVariants.{Count, Errno}}
 use Rattle.exec_request.specs.Windows.{plain_window, cancel_window, wake_window}
-use Rattle.exec_ring.specs.declared.completion.Completion.{Completion}
-use Rattle.exec_ring.specs.declared.completion.Submission.{Submission}
-use Rattle.exec_ring.specs.declared.completion.Posted.{Posted}
-use Rattle.exec_ring.specs.Rings.{RingState, fresh}
+use Rattle.exec_ring.specs.{declared.completion.{Completion.Completion, Submission.Submission, Posted.Posted}, Rings.{RingState, fresh}}
+use Rattle.exec_request.specs.declared.window.Opcode.TheVariants as opcode
 
 -- a send of ten bytes with the user data 7, its cancel, and the wake poll
 abbrev pub a_send : Submission

@@ -1,10 +1,13 @@
--- The bytes of a file.
-use Rattle.std.specs.Prelude.{◌≡◌, ℕ, zero, suc, ◌+◌, ◌-◌, ◌/◌, ◌%◌, ◌<◌, ◌&&◌, List, [], ◌∷◌, length, slice_index, nat_le, nat_lt, Option, Some, None, IsSome, if◌then◌else◌}
-use Rattle.std.specs.Ordering.{nat_cmp}
-use Rattle.std.specs.BTreeMap.{get}
-use Rattle.exec_ring.specs.declared.file.File.{File}
-use Rattle.exec_ring.specs.declared.page.Page.{Page}
-use Rattle.exec_ring.specs.Pages.{bytes_of}
+-- The bytes of a file, and of its pages.
+use Rattle.std.specs.{Prelude.{◌≡◌, ℕ, zero, suc, ◌+◌, ◌-◌, ◌/◌, ◌%◌, ◌<◌, ◌&&◌, List, [], ◌∷◌, ◌++◌, length, take, drop, slice_index, nat_le, nat_lt, Option, Some, None, IsSome, if◌then◌else◌}, Ordering.nat_cmp, BTreeMap.get}
+use Rattle.exec_ring.specs.declared.file.{File.File, Page.Page}
+
+abbrev pub bytes_of : Page → List ℕ
+bytes_of p = p.bytes.items
+
+-- a list with these bytes over it from a place on
+abbrev pub overwritten : ℕ → List ℕ → List ℕ → List ℕ
+overwritten at bytes old = take at old ++ bytes ++ drop (at + length bytes) old
 
 -- a page that is not there has zeros
 abbrev pub byte_in : Option Page → ℕ → ℕ

@@ -1,9 +1,6 @@
 -- A landing that fills a request's window.
 use Rattle.std.specs.Prelude.{◌≡◌, ℕ, Bool, List}
-use Rattle.exec_request.specs.declared.request.Request.{Request}
-use Rattle.exec_request.specs.Requests.{window_by, cursor_of}
-use Rattle.exec_request.specs.Bytes.{lent_of, filled_of, filled_at}
-use Rattle.exec_request.specs.Kept.{kept_of, owned_by}
+use Rattle.exec_request.specs.{declared.request.Request.Request, Requests.{window_by, cursor_of}, Bytes.{lent_of, filled_of, filled_at}, Kept.{kept_of, owned_by}}
 
 -- these bytes were put into the request's window, from its start on, and nothing else of it changed
 pub record Fills (old new : Request) (bytes : List ℕ) : Type 0 where

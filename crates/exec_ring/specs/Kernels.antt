@@ -1,19 +1,8 @@
 -- What each call does to a ring, and what its kernel does.
-use Rattle.std.specs.Prelude.{◌≡◌, ℕ, Bool, true, false, not, ◌+◌, ◌-◌, ◌^◌, ◌==◌, ◌&&◌, List, [], ◌∷◌, ◌++◌, length, fold, min, nat_lt, Option, Some, None, if◌then◌else◌}
-use Rattle.std.specs.List.{list_any, remove, slice_get}
-use Rattle.exec_outcomes.specs.declared.outcome.OpResult.{OpResult}
-use Rattle.exec_outcomes.specs.Lawful.{is_lawful}
-use Rattle.exec_request.specs.declared.window.Opcode.{Opcode}
-use Rattle.exec_request.specs.declared.window.Opcode.TheVariants.{Cancel, Wake}
-use Rattle.exec_request.specs.declared.window.Window.{Window}
-use Rattle.exec_request.specs.Windows.{most_of}
-use Rattle.exec_ring.specs.declared.completion.Completion.{Completion}
-use Rattle.exec_ring.specs.declared.completion.Submission.{Submission}
-use Rattle.exec_ring.specs.declared.completion.Posted.{Posted}
-use Rattle.exec_ring.specs.declared.ring.Entered.{Entered}
-use Rattle.exec_ring.specs.declared.ring.Entered.TheVariants.{Taken, Busy}
-use Rattle.exec_ring.specs.Completions.{is_operation, wake_completion, acknowledged, completed}
-use Rattle.exec_ring.specs.Rings.{RingState}
+use Rattle.std.specs.{Prelude.{◌≡◌, ℕ, Bool, true, false, not, ◌+◌, ◌-◌, ◌^◌, ◌==◌, ◌&&◌, List, [], ◌∷◌, ◌++◌, length, fold, min, nat_lt, Option, Some, None, if◌then◌else◌}, List.{list_any, remove, slice_get}}
+use Rattle.exec_outcomes.specs.{declared.outcome.OpResult.OpResult, Lawful.is_lawful}
+use Rattle.exec_request.specs.{declared.window.{Opcode.{Opcode, TheVariants.{Cancel, Wake}}, Window.Window}, Windows.most_of}
+use Rattle.exec_ring.specs.{declared.{completion.{Completion.Completion, Submission.Submission, Posted.Posted}, ring.Entered.{Entered, TheVariants.{Taken, Busy}}}, Completions.{is_operation, wake_completion, acknowledged, completed}, Rings.RingState}
 
 -- one more entry in the submission queue
 abbrev pub with_entry : RingState → Window → ℕ → RingState
@@ -111,13 +100,9 @@ abbrev pub may_land : RingState → ℕ → OpResult → Bool
 may_land s user_data n = allows (flight_of s user_data) n
 
 -- the window of what may end so
-abbrev pub window_if : Bool → Window → Option Window
-window_if true w = Some w
-window_if false w = None
-
 abbrev pub allowed_window : Option Submission → OpResult → Option Window
 allowed_window None n = None
-allowed_window (Some e) n = window_if (is_lawful (most_of e.window) n) e.window
+allowed_window (Some e) n = if is_lawful (most_of e.window) n then Some e.window else None
 
 -- the ring without that operation
 abbrev pub without_flight : RingState → ℕ → RingState

@@ -1,20 +1,9 @@
 -- What moves where an operation of the ring in memory ends.
 use Rattle.std.specs.Prelude.{◌≡◌, ℕ, true, ◌+◌, ◌^◌, ◌<◌, ◌≤◌, take, Option, Some, None}
 use Rattle.exec_bufs.specs.Buffers.{resized}
-use Rattle.exec_outcomes.specs.declared.outcome.OpResult.{OpResult}
-use Rattle.exec_outcomes.specs.declared.outcome.OpResult.TheVariants.{Count, Errno}
-use Rattle.exec_request.specs.declared.window.Opcode.{Opcode}
-use Rattle.exec_request.specs.declared.window.Opcode.TheVariants.{Send, Recv, Read, Write}
-use Rattle.exec_request.specs.declared.window.Window.{Window}
-use Rattle.exec_request.specs.declared.request.Request.{Request}
-use Rattle.exec_request.specs.Requests.{window_by}
-use Rattle.exec_request.specs.Bytes.{window_bytes}
-use Rattle.exec_ring.specs.declared.completion.Submission.{Submission}
-use Rattle.exec_ring.specs.declared.store.Store.{Store}
-use Rattle.exec_ring.specs.Files.{values_from}
-use Rattle.exec_ring.specs.Fillings.{Fills}
-use Rattle.exec_ring.specs.Sockets.{after_send, after_receive}
-use Rattle.exec_ring.specs.Stores.{socket_of, store_byte, HasStretch, SocketBecomes, WritesOver}
+use Rattle.exec_outcomes.specs.declared.outcome.OpResult.{OpResult, TheVariants.{Count, Errno}}
+use Rattle.exec_request.specs.{declared.{window.{Opcode.{Opcode, TheVariants.{Send, Recv, Read, Write}}, Window.Window}, request.Request.Request}, Requests.window_by, Bytes.window_bytes}
+use Rattle.exec_ring.specs.{declared.{completion.Submission.Submission, store.Store.Store}, Files.values_from, Fillings.Fills, Sockets.{after_send, after_receive}, Stores.{socket_of, store_byte, HasStretch, SocketBecomes, WritesOver}}
 
 -- the store has the room that n bytes of a window need
 abbrev pub HasRoomBy : Opcode → Window → ℕ → Store → Type 0

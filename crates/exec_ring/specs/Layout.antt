@@ -1,9 +1,6 @@
 -- How the ring in memory lies in its lists.
-use Rattle.std.specs.Prelude.{◌≤◌, length}
-use Rattle.std.specs.Vec.{vec_capacity}
-use Rattle.std.specs.VecDeque.{deque_capacity}
-use Rattle.exec_ring.specs.declared.sim_ring.SimRing.TheInside.{Inside}
-use Rattle.exec_ring.specs.Rings.{RingState, taken_places}
+use Rattle.std.specs.{Prelude.{◌≤◌, length}, Vec.vec_capacity, VecDeque.deque_capacity}
+use Rattle.exec_ring.specs.{declared.sim_ring.SimRing.TheInside.Inside, Rings.{RingState, taken_places}}
 
 abbrev pub state_of : Inside → RingState
 state_of r =

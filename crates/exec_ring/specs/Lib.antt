@@ -5,7 +5,6 @@ pub mod Layout
 pub mod Sockets
 pub mod SocketLayout
 pub mod Fillings
-pub mod Pages
 pub mod Files
 pub mod Stores
 pub mod Landings

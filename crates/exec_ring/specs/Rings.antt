@@ -1,10 +1,6 @@
 -- What a ring is: the entries of its submission queue, what the kernel has of them, and the completions.
-use Rattle.std.specs.Prelude.{ℕ, Bool, true, false, ◌+◌, List, [], ◌∷◌, ◌++◌, length, replicate, if◌then◌else◌}
-use Rattle.std.specs.List.{flat_map}
-use Rattle.exec_ring.specs.declared.completion.Completion.{Completion}
-use Rattle.exec_ring.specs.declared.completion.Submission.{Submission}
-use Rattle.exec_ring.specs.declared.completion.Posted.{Posted}
-use Rattle.exec_ring.specs.Completions.{wake_completion}
+use Rattle.std.specs.{Prelude.{ℕ, Bool, true, false, ◌+◌, List, [], ◌∷◌, ◌++◌, length, replicate, if◌then◌else◌}, List.flat_map}
+use Rattle.exec_ring.specs.{declared.completion.{Completion.Completion, Submission.Submission, Posted.Posted}, Completions.wake_completion}
 
 pub record RingState : Type 0 where
   -- how many entries the submission queue has room for, and what stands in it

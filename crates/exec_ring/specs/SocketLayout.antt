@@ -1,8 +1,6 @@
 -- How the bytes of a socket lie in its vectors.
-use Rattle.std.specs.Prelude.{◌+◌, ◌≤◌, length, drop}
-use Rattle.std.specs.Vec.{vec_capacity}
-use Rattle.exec_ring.specs.declared.socket.Socket.TheInside.{Inside}
-use Rattle.exec_ring.specs.Sockets.{SocketState}
+use Rattle.std.specs.{Prelude.{◌+◌, ◌≤◌, length, drop}, Vec.vec_capacity}
+use Rattle.exec_ring.specs.{declared.socket.Socket.TheInside.Inside, Sockets.SocketState}
 
 abbrev pub socket_in : Inside → SocketState
 socket_in s =

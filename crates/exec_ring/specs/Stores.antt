@@ -1,14 +1,7 @@
 -- The bytes of all sockets and files.
-use Rattle.std.specs.Prelude.{◌≡◌, ℕ, ◌+◌, ◌-◌, ◌==◌, List, Option, Some, None, IsSome, unwrap_or, if◌then◌else◌}
-use Rattle.std.specs.Ordering.{nat_cmp}
-use Rattle.std.specs.BTreeMap.{get}
-use Rattle.exec_request.specs.declared.window.Opcode.{Opcode}
-use Rattle.exec_request.specs.declared.window.Opcode.TheVariants.{Send, Recv, Write}
-use Rattle.exec_request.specs.declared.window.Window.{Window}
-use Rattle.exec_ring.specs.Sockets.{SocketState, nothing_moved}
-use Rattle.exec_ring.specs.declared.file.File.{File}
-use Rattle.exec_ring.specs.Files.{byte_at, byte_over, Covers}
-use Rattle.exec_ring.specs.declared.store.Store.{Store}
+use Rattle.std.specs.{Prelude.{◌≡◌, ℕ, ◌+◌, ◌-◌, ◌==◌, List, Option, Some, None, IsSome, unwrap_or, if◌then◌else◌}, Ordering.nat_cmp, BTreeMap.get}
+use Rattle.exec_request.specs.declared.window.{Opcode.{Opcode, TheVariants.{Send, Recv, Write}}, Window.Window}
+use Rattle.exec_ring.specs.{Sockets.{SocketState, nothing_moved}, declared.{file.File.File, store.Store.Store}, Files.{byte_at, byte_over, Covers}}
 
 -- a socket that was never named moved nothing
 abbrev pub socket_of : Store → ℕ → SocketState

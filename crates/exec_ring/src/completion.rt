@@ -62,7 +62,10 @@ impl Completion {
     {
         Completion {
             user_data,
-            result: to_number(given),
+            result: match given {
+                OpResult::Count(count) => count as i32,
+                OpResult::Errno(code) => -(code as i32),
+            },
             more: true,
         }
     }
@@ -105,16 +108,5 @@ impl Completion {
         } else {
             OpResult::Count(u64::from(self.result.unsigned_abs()))
         }
-    }
-}
-
-/// A result as a number. It must be one that a kernel may give.
-fn to_number(given: OpResult) -> i32
-    requires { IsTrue (is_lawful 2147483647 given) }
-    ensures { result ≡ number_of given }
-{
-    match given {
-        OpResult::Count(count) => count as i32,
-        OpResult::Errno(code) => -(code as i32),
     }
 }

@@ -1,10 +1,7 @@
 //! Worked examples of what calls do to a ring, proved by computation: what is lawful, and what is refused.
 
 ghost use Rattle.std.specs.Prelude.{◌≡◌, ◌≢◌, true, false, pos, negsuc, [], ◌∷◌};
-ghost use Rattle.exec_ring.specs.Completions.{wake_completion, acknowledged};
-ghost use Rattle.exec_ring.specs.Rings.{fresh, completions};
-ghost use Rattle.exec_ring.specs.Kernels.{entered, may_land, landed, with_wake, with_poll, reaped};
-ghost use Rattle.exec_ring.specs.Examples.{a_send, the_poll, its_cancel, three_staged, without_wakes, send_flying, poll_armed, bytes, failed_with};
+ghost use Rattle.exec_ring.specs.{Completions.{wake_completion, acknowledged}, Rings.{fresh, completions}, Kernels.{entered, may_land, landed, with_wake, with_poll, reaped}, Examples.{a_send, the_poll, its_cancel, three_staged, without_wakes, send_flying, poll_armed, bytes, failed_with}};
 
 /// An enter takes all entries in, and none where the kernel is busy, for that once.
 pub fn an_enter()

@@ -3,18 +3,55 @@
 //! The bytes lie in pages of 4,096, by their number. A page that is not there has zeros alone, so making one changes
 //! no byte. A landing writes into pages that were made before, and reads also where there are none.
 
-ghost use Rattle.std.specs.Prelude.{◌≡◌, ◌+◌, ◌-◌, ◌/◌, ◌%◌, ◌^◌, ◌<◌, ◌≤◌, ◌↔◌, IsTrue, ℕ, min, length, take, drop, true, OnOk};
+ghost use Rattle.std.specs.Prelude.{◌≡◌, ◌+◌, ◌-◌, ◌/◌, ◌%◌, ◌^◌, ◌<◌, ◌≤◌, ◌↔◌, IsTrue, ℕ, min, length, take, drop, true, replicate, IfOk, OnOk};
 ghost use Rattle.exec_bufs.specs.Buffers.{resized};
-ghost use Rattle.exec_request.specs.Windows.{moves_out, moves_in};
-ghost use Rattle.exec_request.specs.Requests.{window_by};
-ghost use Rattle.exec_request.specs.Bytes.{window_bytes};
-ghost use Rattle.exec_ring.specs.Fillings.{Fills};
-ghost use Rattle.exec_ring.specs.Files.{byte_at, HasPage, Covers, SameBytes, KeepsPages, Overwrites, bytes_from};
+ghost use Rattle.exec_request.specs.{Windows.{moves_out, moves_in}, Requests.window_by, Bytes.window_bytes};
 
-use crate::page::{PAGE, Page};
 use exec_request::request::Request;
 use std::alloc::{AllocError, Global};
 use std::collections::BTreeMap;
+
+/// How many bytes a page has.
+const PAGE: u64 = 4096;
+
+/// 4,096 bytes of a file.
+#[derive(Drop)]
+pub struct Page {
+    bytes: Vec<u8>,
+    pub ghost full: { length bytes.items ≡ 4096 },
+}
+
+impl Page {
+    ghost use Rattle.exec_ring.specs.Files.{bytes_of, overwritten};
+
+    /// A page of zeros.
+    pub(crate) fn new(alloc: Global) -> Result<Page, AllocError>
+        ensures { IfOk result (λ p. bytes_of p ≡ replicate 4096 0) }
+    {
+        Ok(Page {
+            bytes: vec![in alloc; 0u8; 4096]?,
+        })
+    }
+
+    /// The bytes from this place on, so many.
+    pub(crate) fn slice(&self, start: usize, count: usize) -> &[u8]
+        requires { start + count ≤ 4096 }
+        ensures { result.now ≡ take count (drop start (bytes_of self.now)) }
+    {
+        &self.bytes[start..start + count]
+    }
+
+    /// Writes bytes of the window of this request, from its byte `at` on, so many, at this place.
+    pub(crate) fn write(&mut self, start: usize, count: usize, at: usize, request: &Request)
+        requires page { start + count ≤ 4096 }
+        requires out { moves_out (window_by true request.now).kind ≡ true }
+        requires within { at + count ≤ (window_by true request.now).length }
+        ensures inside { start + length (take count (drop at (window_bytes request.now))) ≤ 4096 }
+        ensures bytes { bytes_of self.new ≡ overwritten start (take count (drop at (window_bytes request.now))) (bytes_of self.old) }
+    {
+        request.copy_window(at, self.bytes.slice_mut(start..start + count));
+    }
+}
 
 /// The bytes of a file.
 #[derive(Drop)]
@@ -23,6 +60,8 @@ pub struct File {
 }
 
 impl File {
+    ghost use Rattle.exec_ring.specs.{Fillings.Fills, Files.{byte_at, HasPage, Covers, SameBytes, KeepsPages, Overwrites, bytes_from}};
+
     /// A file of zeros.
     pub fn new(alloc: Global) -> File
         ensures { (k : ℕ) → byte_at result k ≡ 0 }
@@ -37,7 +76,7 @@ impl File {
         ensures { result ≡ byte_at self.now offset }
     {
         match self.pages.get(&(offset / PAGE)) {
-            Some(page) => page.byte((offset % PAGE) as usize),
+            Some(page) => page.bytes[(offset % PAGE) as usize],
             None => 0,
         }
     }
@@ -86,11 +125,9 @@ impl File {
         ensures bytes { SameBytes self.old self.new }
         ensures pages { KeepsPages self.old self.new }
     {
-        if self.pages.contains_key(&number) {
-            return Ok(());
+        if !self.pages.contains_key(&number) {
+            self.pages.insert(number, Page::new(alloc)?)?;
         }
-        let page = Page::new(alloc)?;
-        self.pages.insert(number, page)?;
         Ok(())
     }
 

@@ -6,11 +6,10 @@
 //! bytes; a write stores them in its file. A result that is an error number moves none, nor does a sync, a connect or
 //! a poll. Nothing here takes memory: `reserve` made the room.
 
-ghost use Rattle.std.specs.Prelude.{◌≡◌, ◌≤◌, ◌↔◌, IsTrue, OnOk, OnErr, Ok, Err, if◌then◌else◌};
+ghost use Rattle.std.specs.Prelude.{◌≡◌, ◌↔◌, IsTrue, OnOk, OnErr, Ok, Err, if◌then◌else◌};
 ghost use Rattle.exec_outcomes.specs.Lawful.{is_lawful};
 ghost use Rattle.exec_request.specs.Windows.{most_of};
-ghost use Rattle.exec_ring.specs.Kernels.{may_land, landed, flight_of};
-ghost use Rattle.exec_ring.specs.Landings.{IsReady, IsReadyFor, IsReadyBy, Moves, MovesBytes, MovesBy};
+ghost use Rattle.exec_ring.specs.{Kernels.{may_land, landed, flight_of}, Landings.{IsReady, IsReadyFor, Moves, MovesBytes}};
 
 use crate::completion::UserData;
 use crate::sim_ring::SimRing;
@@ -83,10 +82,8 @@ fn is_ready(window: Window, given: OpResult, store: &Store, request: &Request) -
             if request.window(&Some(OpenRecord::new())) != window {
                 return false;
             }
-            if window.offset.checked_add(window.length as u64).is_none() {
-                return false;
-            }
-            store.has_room(window, count as usize)
+            window.offset.checked_add(window.length as u64).is_some()
+                && store.has_room(window, count as usize)
         }
         OpResult::Errno(_) => true,
     }
@@ -98,17 +95,10 @@ fn move_counted(window: Window, given: OpResult, store: &mut Store, request: &mu
     requires lawful { IsTrue (is_lawful (most_of window) given) }
     ensures { MovesBytes window given request.old request.new store.old store.new }
 {
-    if let OpResult::Count(count) = given {
-        move_bytes(window, count as usize, store, request);
-    }
-}
-
-/// Moves so many bytes of a window.
-fn move_bytes(window: Window, count: usize, store: &mut Store, request: &mut Request)
-    requires ready { IsReadyBy window.kind window count request.old store.old }
-    requires within { count ≤ most_of window }
-    ensures { MovesBy window.kind window count request.old request.new store.old store.new }
-{
+    let OpResult::Count(count) = given else {
+        return;
+    };
+    let count = count as usize;
     match window.kind {
         Opcode::Send => store.send(window.target, count, request),
         Opcode::Recv => store.receive(window.target, count, request),

@@ -5,7 +5,6 @@ pub mod completion;
 pub mod examples;
 pub mod file;
 pub mod landing;
-pub mod page;
 pub mod ring;
 pub mod sim_ring;
 pub mod socket;

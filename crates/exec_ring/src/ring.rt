@@ -16,9 +16,7 @@
 //! told what to do, and some operations in one that ends them by itself, each with a result that its window allows.
 
 ghost use Rattle.std.specs.Prelude.{◌≡◌, ◌+◌, ◌-◌, ◌^◌, ◌<◌, List, length, IsTrue, OnOk, OnErr};
-ghost use Rattle.exec_ring.specs.Rings.{RingState, taken_places};
-ghost use Rattle.exec_ring.specs.Kernels.{Landing, with_entry, may_have, answer_of_enter, entered_with, next_completion, reaped, is_quiet as has_no_completion, with_wake, MayAllLand, all_taken};
-ghost use Rattle.exec_ring.specs.Stores.{Same, Reserves, Releases};
+ghost use Rattle.exec_ring.specs.{Rings.{RingState, taken_places}, Kernels.{Landing, with_entry, may_have, answer_of_enter, entered_with, next_completion, reaped, is_quiet as has_no_completion, with_wake, MayAllLand, all_taken}, Stores.{Same, Reserves, Releases}};
 
 use crate::completion::{Completion, UserData};
 use crate::store::Store;

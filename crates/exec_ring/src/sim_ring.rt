@@ -8,11 +8,9 @@
 //! but `reserve` takes memory. Wakes come from others and can't be counted on, so they take no place: those that
 //! come between two completions are kept as a number.
 
-ghost use Rattle.std.specs.Prelude.{◌≡◌, ◌+◌, ◌-◌, ◌<◌, true, length, IsTrue, IsSome, IfOk, OnOk, OnErr};
+ghost use Rattle.std.specs.Prelude.{◌≡◌, ◌+◌, ◌-◌, ◌<◌, true, IsTrue, IsSome, IfOk, OnOk, OnErr};
 ghost use Rattle.exec_outcomes.specs.Lawful.{is_lawful};
-ghost use Rattle.exec_ring.specs.Rings.{fresh, taken_places};
-ghost use Rattle.exec_request.specs.Windows.{most_of};
-ghost use Rattle.exec_ring.specs.Kernels.{is_of, last_place, window_if, flight_of, allowed_window, without_flight, landed, with_completion, woken, with_wake, with_poll, taken_in, next_completion, reaped, is_quiet as has_none_posted, with_entry, entered, answer_of_enter};
+ghost use Rattle.exec_ring.specs.{Rings.{fresh, taken_places}, Kernels.{is_of, last_place, flight_of, allowed_window, without_flight, landed, with_completion, woken, with_poll, taken_in}};
 
 use crate::completion::{Completion, Posted, Submission, UserData};
 use crate::ring::{Entered, Ring};
@@ -66,10 +64,9 @@ impl SimRing {
     pub fn new(alloc: Global, size: usize) -> Result<SimRing, AllocError>
         ensures { IfOk result (λ r. r ≡ fresh size) }
     {
-        let staged = VecDeque::with_capacity(alloc, size)?;
         Ok(SimRing {
             size,
-            staged,
+            staged: VecDeque::with_capacity(alloc, size)?,
             flying: Vec::new(alloc),
             armed: false,
             raised: false,
@@ -108,24 +105,6 @@ impl SimRing {
         Ok(())
     }
 
-    /// Gives up the room for one entry.
-    fn release_place(&mut self)
-        requires { taken_places self.old < self.old.places }
-        ensures { self.new ≡ record self.old { places = self.old.places - 1 } }
-    {
-        self.places -= 1;
-    }
-
-    /// One more entry in the submission queue.
-    fn push_entry(&mut self, window: Window, user_data: UserData)
-        requires room { length self.old.staged < self.old.size }
-        requires place { taken_places self.old < self.old.places }
-        ensures { self.new ≡ with_entry self.old window user_data }
-    {
-        self.staged
-            .push_back_reserved(Submission { window, user_data });
-    }
-
     /// One more completion.
     fn post(&mut self, completion: Completion)
         requires { taken_places self.old < self.old.places }
@@ -147,17 +126,6 @@ impl SimRing {
             self.post(Completion::wake(false));
         } else {
             self.wakes = self.wakes.saturating_add(1);
-        }
-    }
-
-    /// A wake is raised.
-    fn take_wake(&mut self)
-        ensures { self.new ≡ with_wake self.old }
-    {
-        if self.armed {
-            self.wake();
-        } else {
-            self.raised = true;
         }
     }
 
@@ -185,74 +153,15 @@ impl SimRing {
         }
     }
 
-    /// The kernel takes all entries in, or none where it is busy.
-    fn take_all(&mut self) -> Entered
-        ensures answer { result ≡ answer_of_enter self.old }
-        ensures after { self.new ≡ entered self.old }
-    {
-        if self.busy {
-            self.busy = false;
-            return Entered::Busy;
-        }
-        let taken = self.staged.len();
-        while let Some(entry) = self.staged.pop_front() {
-            self.take_in(entry);
-        }
-        Entered::Taken(taken)
-    }
-
-    /// The first completion that was not reaped, which is taken out.
-    fn take_completion(&mut self) -> Option<Completion>
-        ensures answer { result ≡ next_completion self.old }
-        ensures after { self.new ≡ reaped self.old }
-    {
-        match self.posted.pop_front() {
-            Some(first) if first.wakes == 0 => Some(first.completion),
-            Some(first) => {
-                let wakes = first.wakes - 1;
-                self.posted.push_front_reserved(Posted { wakes, ..first });
-                Some(Completion::wake(true))
-            }
-            None if self.wakes == 0 => None,
-            None => {
-                self.wakes -= 1;
-                Some(Completion::wake(true))
-            }
-        }
-    }
-
-    /// The first completion that was not reaped.
-    fn first_completion(&self) -> Option<Completion>
-        ensures { result ≡ next_completion self.now }
-    {
-        match self.posted.front() {
-            Some(first) if first.wakes == 0 => Some(first.completion),
-            None if self.wakes == 0 => None,
-            _ => Some(Completion::wake(true)),
-        }
-    }
-
-    /// Whether no completion is there.
-    fn has_no_completion(&self) -> bool
-        ensures { result ≡ has_none_posted self.now }
-    {
-        self.posted.is_empty() && self.wakes == 0
-    }
-
-    /// How many more entries the submission queue has room for.
-    fn room_left(&self) -> usize
-        ensures { result + length self.now.staged ≡ self.now.size }
-    {
-        self.size - self.staged.len()
-    }
-
     /// The window of the operation with this user data, where the kernel has it and may end it so.
     pub(crate) fn allowed(&self, user_data: UserData, given: OpResult) -> Option<Window>
         ensures { result ≡ allowed_window (flight_of self.now user_data) given }
     {
-        match self.flight(user_data) {
-            Some(flight) => window_if_given(flight.window, given),
-            None => None,
+        let window = self.flight(user_data)?.window;
+        if given.is_lawful(window.most()) {
+            Some(window)
+        } else {
+            None
         }
     }
 
@@ -260,8 +169,7 @@ impl SimRing {
     fn flight(&self, user_data: UserData) -> Option<Submission>
         ensures { result ≡ flight_of self.now user_data }
     {
-        let at = last_of(&self.flying, user_data);
-        self.flying.get(at).copied()
+        self.flying.get(last_of(&self.flying, user_data)).copied()
     }
 
     /// The operation with this user data has ended with this result.
@@ -299,17 +207,6 @@ fn last_of(flying: &[Submission], user_data: UserData) -> usize
     }
 }
 
-/// This window, where a kernel may end its operation so.
-fn window_if_given(window: Window, given: OpResult) -> Option<Window>
-    ensures { result ≡ window_if (is_lawful (most_of window) given) window }
-{
-    if given.is_lawful(window.most()) {
-        Some(window)
-    } else {
-        None
-    }
-}
-
 impl Ring for SimRing {
     ghost use Rattle.std.specs.Prelude.{[]};
 
@@ -318,31 +215,60 @@ impl Ring for SimRing {
     ghost landings = { λ _. [] };
 
     fn stage(&mut self, window: Window, user_data: UserData) {
-        self.push_entry(window, user_data);
+        self.staged
+            .push_back_reserved(Submission { window, user_data });
     }
 
     fn enter(&mut self) -> Entered {
-        self.take_all()
+        if self.busy {
+            self.busy = false;
+            return Entered::Busy;
+        }
+        let taken = self.staged.len();
+        while let Some(entry) = self.staged.pop_front() {
+            self.take_in(entry);
+        }
+        Entered::Taken(taken)
     }
 
     fn reap(&mut self) -> Option<Completion> {
-        self.take_completion()
+        match self.posted.pop_front() {
+            Some(first) if first.wakes == 0 => Some(first.completion),
+            Some(first) => {
+                let wakes = first.wakes - 1;
+                self.posted.push_front_reserved(Posted { wakes, ..first });
+                Some(Completion::wake(true))
+            }
+            None if self.wakes == 0 => None,
+            None => {
+                self.wakes -= 1;
+                Some(Completion::wake(true))
+            }
+        }
     }
 
     fn peek(&self) -> Option<Completion> {
-        self.first_completion()
+        match self.posted.front() {
+            Some(first) if first.wakes == 0 => Some(first.completion),
+            None if self.wakes == 0 => None,
+            _ => Some(Completion::wake(true)),
+        }
     }
 
     fn is_quiet(&self) -> bool {
-        self.has_no_completion()
+        self.posted.is_empty() && self.wakes == 0
     }
 
     fn raise(&mut self) {
-        self.take_wake();
+        if self.armed {
+            self.wake();
+        } else {
+            self.raised = true;
+        }
     }
 
     fn room(&self) -> usize {
-        self.room_left()
+        self.size - self.staged.len()
     }
 
     fn reserve(
@@ -353,14 +279,14 @@ impl Ring for SimRing {
     ) -> Result<(), AllocError> {
         self.reserve_place()?;
         if store.reserve(alloc, window).is_err() {
-            self.release_place();
+            self.places -= 1;
             return Err(AllocError);
         }
         Ok(())
     }
 
     fn release(&mut self, window: Window, store: &mut Store) {
-        self.release_place();
+        self.places -= 1;
         store.release(window);
     }
 

@@ -4,16 +4,13 @@
 //! receive that the kernel ends with bytes all the same has zeros. A list of sent or received bytes grows at a
 //! landing, within room that was made before.
 
-ghost use Rattle.std.specs.Prelude.{◌≡◌, ◌+◌, ◌-◌, ◌≤◌, ◌++◌, length, take, drop, true, vec_len, OnOk, OnErr};
-ghost use Rattle.std.specs.Vec.{vec_capacity};
+ghost use Rattle.std.specs.{Prelude.{◌≡◌, ◌+◌, ◌-◌, ◌≤◌, ◌++◌, length, take, drop, true, vec_len, OnOk, OnErr}, Vec.vec_capacity};
 ghost use Rattle.exec_bufs.specs.Buffers.{resized};
-ghost use Rattle.exec_request.specs.Windows.{moves_out, moves_in};
-ghost use Rattle.exec_request.specs.Requests.{window_by};
-ghost use Rattle.exec_request.specs.Bytes.{window_bytes};
-ghost use Rattle.exec_ring.specs.Fillings.{Fills};
-ghost use Rattle.exec_ring.specs.Sockets.{nothing_moved, after_send, after_receive};
+ghost use Rattle.exec_request.specs.{Windows.{moves_out, moves_in}, Requests.window_by, Bytes.window_bytes};
+ghost use Rattle.exec_ring.specs.{Fillings.Fills, Sockets.{nothing_moved, after_send, after_receive}};
 
 use exec_request::request::Request;
+use exec_request::window::Opcode;
 use std::alloc::{AllocError, Global};
 use std::marker::Model;
 
@@ -47,6 +44,8 @@ impl Model for Socket {
 }
 
 impl Socket {
+    ghost use Rattle.exec_ring.specs.Stores.{with_room, without_room};
+
     /// A socket of which no byte moved, without room for any.
     pub fn new(alloc: Global) -> Socket
         ensures { result ≡ nothing_moved }
@@ -66,8 +65,7 @@ impl Socket {
         ensures ok { OnOk result (self.new ≡ record self.old { fed = self.old.fed ++ bytes.now }) }
         ensures err { OnErr result (self.new ≡ self.old) }
     {
-        self.fed.extend_from_slice(bytes)?;
-        Ok(())
+        self.fed.extend_from_slice(bytes)
     }
 
     /// The bytes that it sent.
@@ -98,40 +96,36 @@ impl Socket {
         self.received_room
     }
 
-    /// Makes room for so many more bytes to be sent. An `Err` comes only for want of memory.
-    pub(crate) fn reserve_sent(&mut self, count: usize) -> Result<(), AllocError>
-        ensures ok { OnOk result (self.new ≡ record self.old { sent_room = self.old.sent_room + count }) }
+    /// Makes room for so many more bytes to be sent, or received. An `Err` comes only for want of memory.
+    pub(crate) fn reserve(&mut self, kind: Opcode, count: usize) -> Result<(), AllocError>
+        ensures ok { OnOk result (self.new ≡ with_room kind count self.old) }
         ensures err { OnErr result (self.new ≡ self.old) }
     {
-        let room = self.sent_room.checked_add(count).ok_or(AllocError)?;
-        self.sent.reserve(room)?;
-        self.sent_room = room;
+        match kind {
+            Opcode::Send => {
+                let room = self.sent_room.checked_add(count).ok_or(AllocError)?;
+                self.sent.reserve(room)?;
+                self.sent_room = room;
+            }
+            Opcode::Recv => {
+                let room = self.received_room.checked_add(count).ok_or(AllocError)?;
+                self.received.reserve(room)?;
+                self.received_room = room;
+            }
+            _ => {}
+        }
         Ok(())
     }
 
-    /// Makes room for so many more bytes to be received. An `Err` comes only for want of memory.
-    pub(crate) fn reserve_received(&mut self, count: usize) -> Result<(), AllocError>
-        ensures ok { OnOk result (self.new ≡ record self.old { received_room = self.old.received_room + count }) }
-        ensures err { OnErr result (self.new ≡ self.old) }
+    /// Gives up the room for so many bytes to be sent, or received, or for all where there is no more.
+    pub(crate) fn release(&mut self, kind: Opcode, count: usize)
+        ensures { self.new ≡ without_room kind count self.old }
     {
-        let room = self.received_room.checked_add(count).ok_or(AllocError)?;
-        self.received.reserve(room)?;
-        self.received_room = room;
-        Ok(())
-    }
-
-    /// Gives up the room for so many bytes to be sent, or for all where there is no more.
-    pub(crate) fn release_sent(&mut self, count: usize)
-        ensures { self.new ≡ record self.old { sent_room = self.old.sent_room - count } }
-    {
-        self.sent_room = self.sent_room.saturating_sub(count);
-    }
-
-    /// Gives up the room for so many bytes to be received, or for all where there is no more.
-    pub(crate) fn release_received(&mut self, count: usize)
-        ensures { self.new ≡ record self.old { received_room = self.old.received_room - count } }
-    {
-        self.received_room = self.received_room.saturating_sub(count);
+        match kind {
+            Opcode::Send => self.sent_room = self.sent_room.saturating_sub(count),
+            Opcode::Recv => self.received_room = self.received_room.saturating_sub(count),
+            _ => {}
+        }
     }
 
     /// Sends the first bytes of the window of this request, so many.

@@ -8,14 +8,8 @@
 
 ghost use Rattle.std.specs.Prelude.{◌≡◌, ◌+◌, ◌-◌, ◌^◌, ◌<◌, ◌≤◌, ◌++◌, ◌↔◌, ℕ, take, true, IsTrue, OnOk, OnErr, IfSome, IfNone};
 ghost use Rattle.exec_bufs.specs.Buffers.{resized};
-ghost use Rattle.exec_request.specs.Windows.{moves_out, moves_in};
-ghost use Rattle.exec_request.specs.Requests.{window_by};
-ghost use Rattle.exec_request.specs.Bytes.{window_bytes};
-ghost use Rattle.exec_ring.specs.Fillings.{Fills};
-ghost use Rattle.exec_ring.specs.Sockets.{nothing_moved, after_send, after_receive};
-ghost use Rattle.exec_ring.specs.Files.{byte_at, values_from};
-ghost use Rattle.exec_ring.specs.Landings.{HasRoomBy};
-ghost use Rattle.exec_ring.specs.Stores.{socket_of, store_byte, HasSocket, HasFile, HasStretch, Same, SocketBecomes, WritesOver, Reserves, Releases};
+ghost use Rattle.exec_request.specs.{Windows.{moves_out, moves_in}, Requests.window_by, Bytes.window_bytes};
+ghost use Rattle.exec_ring.specs.{Fillings.Fills, Sockets.{nothing_moved, after_send, after_receive}, Files.{byte_at, values_from}, Landings.HasRoomBy, Stores.{socket_of, store_byte, HasSocket, HasFile, HasStretch, Same, SocketBecomes, WritesOver, Reserves, Releases}};
 
 use crate::file::File;
 use crate::socket::Socket;
@@ -88,10 +82,9 @@ impl Store {
         ensures ok { OnOk result (HasSocket self.new socket) }
         ensures same { Same self.old self.new }
     {
-        if self.sockets.contains_key(&socket) {
-            return Ok(());
+        if !self.sockets.contains_key(&socket) {
+            self.sockets.insert(socket, Socket::new(alloc))?;
         }
-        self.sockets.insert(socket, Socket::new(alloc))?;
         Ok(())
     }
 
@@ -100,10 +93,9 @@ impl Store {
         ensures ok { OnOk result (HasFile self.new number) }
         ensures same { Same self.old self.new }
     {
-        if self.files.contains_key(&number) {
-            return Ok(());
+        if !self.files.contains_key(&number) {
+            self.files.insert(number, File::new(alloc))?;
         }
-        self.files.insert(number, File::new(alloc))?;
         Ok(())
     }
 
@@ -115,16 +107,21 @@ impl Store {
         ensures ok { OnOk result (Reserves window self.old self.new) }
         ensures err { OnErr result (Same self.old self.new) }
     {
-        let count = window.length as usize;
         match window.kind {
-            Opcode::Send => self.reserve_sent(alloc, window.target, count),
-            Opcode::Recv => self.reserve_received(alloc, window.target, count),
-            Opcode::Write => self.reserve_stretch(
-                alloc,
-                window.target,
-                window.offset,
-                window.length as u64,
-            ),
+            Opcode::Send | Opcode::Recv => {
+                self.make_socket(alloc, window.target)?;
+                match self.sockets.get_mut(&window.target) {
+                    Some(there) => there.reserve(window.kind, window.length as usize),
+                    None => Ok(()),
+                }
+            }
+            Opcode::Write => {
+                self.make_file(alloc, window.target)?;
+                match self.files.get_mut(&window.target) {
+                    Some(there) => there.reserve(alloc, window.offset, window.length as u64),
+                    None => Ok(()),
+                }
+            }
             _ => Ok(()),
         }
     }
@@ -135,42 +132,15 @@ impl Store {
         requires { window.offset + count < 2 ^ 64 }
         ensures { IsTrue result ↔ HasRoomBy window.kind window count self.now }
     {
+        let socket = self.sockets.get(&window.target);
         match window.kind {
-            Opcode::Send => count <= self.sent_room(window.target),
-            Opcode::Recv => count <= self.received_room(window.target),
-            Opcode::Write => self.covers(window.target, window.offset, count as u64),
+            Opcode::Send => count <= socket.map_or(0, |there| there.sent_room()),
+            Opcode::Recv => count <= socket.map_or(0, |there| there.received_room()),
+            Opcode::Write => match self.files.get(&window.target) {
+                Some(there) => there.covers(window.offset, count as u64),
+                None => count == 0,
+            },
             _ => true,
-        }
-    }
-
-    /// For how many more bytes that this socket sends there is room.
-    fn sent_room(&self, socket: u32) -> usize
-        ensures { result ≡ (socket_of self.now socket).sent_room }
-    {
-        match self.sockets.get(&socket) {
-            Some(there) => there.sent_room(),
-            None => 0,
-        }
-    }
-
-    /// For how many more bytes that this socket receives there is room.
-    fn received_room(&self, socket: u32) -> usize
-        ensures { result ≡ (socket_of self.now socket).received_room }
-    {
-        match self.sockets.get(&socket) {
-            Some(there) => there.received_room(),
-            None => 0,
-        }
-    }
-
-    /// Whether there is room for so many bytes of this file from an offset on.
-    fn covers(&self, number: u32, offset: u64, count: u64) -> bool
-        requires { offset + count < 2 ^ 64 }
-        ensures { IsTrue result ↔ HasStretch self.now number offset count }
-    {
-        match self.files.get(&number) {
-            Some(there) => there.covers(offset, count),
-            None => count == 0,
         }
     }
 
@@ -179,77 +149,8 @@ impl Store {
     pub fn release(&mut self, window: Window)
         ensures { Releases window self.old self.new }
     {
-        let count = window.length as usize;
-        match window.kind {
-            Opcode::Send => self.release_sent(window.target, count),
-            Opcode::Recv => self.release_received(window.target, count),
-            _ => {}
-        }
-    }
-
-    /// Makes room for so many more bytes that this socket sends.
-    fn reserve_sent(&mut self, alloc: Global, socket: u32, count: usize) -> Result<(), AllocError>
-        ensures ok { OnOk result (SocketBecomes self.old self.new socket (record (socket_of self.old socket) { sent_room = (socket_of self.old socket).sent_room + count })) }
-        ensures err { OnErr result (Same self.old self.new) }
-    {
-        self.make_socket(alloc, socket)?;
-        match self.sockets.get_mut(&socket) {
-            Some(there) => there.reserve_sent(count),
-            None => Ok(()),
-        }
-    }
-
-    /// Makes room for so many more bytes that this socket receives.
-    fn reserve_received(
-        &mut self,
-        alloc: Global,
-        socket: u32,
-        count: usize,
-    ) -> Result<(), AllocError>
-        ensures ok { OnOk result (SocketBecomes self.old self.new socket (record (socket_of self.old socket) { received_room = (socket_of self.old socket).received_room + count })) }
-        ensures err { OnErr result (Same self.old self.new) }
-    {
-        self.make_socket(alloc, socket)?;
-        match self.sockets.get_mut(&socket) {
-            Some(there) => there.reserve_received(count),
-            None => Ok(()),
-        }
-    }
-
-    /// Makes room for so many bytes of this file from an offset on.
-    fn reserve_stretch(
-        &mut self,
-        alloc: Global,
-        file: u32,
-        offset: u64,
-        length: u64,
-    ) -> Result<(), AllocError>
-        requires { offset + length < 2 ^ 64 }
-        ensures ok { OnOk result (HasStretch self.new file offset length) }
-        ensures same { Same self.old self.new }
-    {
-        self.make_file(alloc, file)?;
-        match self.files.get_mut(&file) {
-            Some(there) => there.reserve(alloc, offset, length),
-            None => Ok(()),
-        }
-    }
-
-    /// Gives up room for so many bytes that this socket sends.
-    fn release_sent(&mut self, socket: u32, count: usize)
-        ensures { SocketBecomes self.old self.new socket (record (socket_of self.old socket) { sent_room = (socket_of self.old socket).sent_room - count }) }
-    {
-        if let Some(there) = self.sockets.get_mut(&socket) {
-            there.release_sent(count);
-        }
-    }
-
-    /// Gives up room for so many bytes that this socket receives.
-    fn release_received(&mut self, socket: u32, count: usize)
-        ensures { SocketBecomes self.old self.new socket (record (socket_of self.old socket) { received_room = (socket_of self.old socket).received_room - count }) }
-    {
-        if let Some(there) = self.sockets.get_mut(&socket) {
-            there.release_received(count);
+        if let Some(there) = self.sockets.get_mut(&window.target) {
+            there.release(window.kind, window.length as usize);
         }
     }
 

@@ -1,8 +1,7 @@
 -- How lines, steps and what was given of them go together.
-use Rattle.std.proofs.Common.{◌≡◌, ℕ, Bool, List, [], ◌∷◌, ◌++◌, Option, Result, OnOk, OnErr, refl, sym, ap, subst, append_assoc, append-nil, ◌∙◌, arith, ◌≤◌, length, Some, None, IfSome, IfNone, suc, true, false, cond, ◌+◌, ◌-◌, ◌<◌, ◌⊎◌, inl, inr, option_and_then, eq-eqb, add-zero, zero-add, take, drop, get_or}
+use Rattle.std.proofs.Common.{◌≡◌, ℕ, Bool, List, [], ◌∷◌, ◌++◌, Option, Result, OnOk, OnErr, refl, sym, ap, subst, append_assoc, append-nil, ◌∙◌, arith, ◌≤◌, length, Some, None, IfSome, IfNone, suc, true, ◌+◌, ◌-◌, ◌<◌, ◌⊎◌, inl, inr, option_and_then, eq-eqb, add-zero, zero-add, take, drop, get_or}
 use Rattle.exec_run.{proofs.Names.{flat_map-append, filter-append, Line, Told, lines_of, text_of_log, told_lines, Said, One, Action, Plan, IsBorn, IsNamed, Spot, Carries, StepNames, take-append-drop, take_more, Configuration, Event, Refused, Did, Step, Follows, same_action, after_work, after_step, after_steps, Playing, by_step, played, IsPaced, Core, IsReady, Shows, Applies, IsSteady, IsSteadyThere, KeepsOn, IsOrderly, orderly, StepFits}, specs.{Log.{Gave, GaveFront, told_text, AreTaken, IsBegun}, Steps.{told_of_line, IsStep, Goes, StandsAt, TakesLine, BreaksLine, Works, Leads, Breaks}}}
-use Rattle.exec_machine.specs.declared.step.Action.TheVariants as action
-use Rattle.exec_machine.specs.declared.step.Step.TheVariants as step
+use Rattle.exec_machine.specs.declared.step.{Action.Action as action, Step.Step as step}
 
 -- What was given of lines that were told.
 
@@ -106,10 +105,6 @@ accepted_line i n l e ls is did = rw (is, did, eq-eqb i i refl) refl
 
 refused_line : (i n : ℕ) (l : Line) (ls : List Line) → l.action ≡ action.Work i → l.said ≡ Refused → after_work i (suc n) (l ∷ ls) ≡ Some ls
 refused_line i n l ls is refused = rw (is, refused, eq-eqb i i refl) refl
-
-either_way : (b : Bool) (ls : List Line) → cond b (Some ls) (Some ls) ≡ Some ls
-either_way true ls = refl
-either_way false ls = refl
 
 last_line : (i : ℕ) (l : Line) (ls : List Line) → l.action ≡ action.Work i → after_work i 1 (l ∷ ls) ≡ Some ls
 last_line i l ls is = grind (arith, eq-eqb)

@@ -1,12 +1,11 @@
 -- The requests that words ask for.
 use Rattle.std.specs.Prelude.{◌≡◌, ℕ, ◌+◌, ◌%◌, ◌^◌, ◌<◌, ◌≤◌, Bool, true, false, ◌||◌, Some}
-use Rattle.exec_machine.specs.{declared.{config.{Configuration.Configuration, ScriptWord.ScriptWord}, state.Operation.Operation}, Requests.{of_file, operation_asked}}
+use Rattle.exec_machine.specs.{declared.{config.{Configuration.Configuration, ScriptWord.{ScriptWord, ScriptWord as word}}, state.Operation.Operation}, Requests.{of_file, operation_asked}}
 use Rattle.exec_outcomes.specs.{Accounts.is_durable, declared.outcome.Kind.{Kind, TheVariants.Direct}}
 use Rattle.exec_parts.specs.{Records.seen_in, Scripts.IsPlainRequest, Spots.IsAskedFor}
 use Rattle.exec_request.specs.{Requests.{asked_of, target_of}, declared.request.Request.Request}
 use Rattle.exec_run.specs.declared.asking.Limits.{Limits}
 use Rattle.exec_task.specs.Sight.{Sight, open_at}
-use Rattle.exec_machine.specs.declared.config.ScriptWord.TheVariants as word
 
 -- BOUNDS OF WHAT IS ASKED FOR
 

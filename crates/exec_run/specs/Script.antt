@@ -1,11 +1,10 @@
 -- The bodies of tasks: each makes the acts of its words, one after another, or waits for the stop of the pool.
 use Rattle.std.specs.{Prelude.{◌≡◌, ℕ, suc, Bool, false, ◌+◌, ◌-◌, ◌%◌, ◌^◌, ◌<◌, ◌≤◌, nat_le, if◌then◌else◌, List, [], ◌∷◌, ◌++◌, All, length, map, drop, slice_get, slice_index_or, Option, Some, None, IfSome, Vec}, declared.alloc.Global.Global}
 use Rattle.exec_base.specs.declared.{error.Error.TheVariants.NoMemory, limits.TheConstants.LONGEST_TIMEOUT}
-use Rattle.exec_machine.specs.{declared.{config.{Configuration.Configuration, ScriptWord.ScriptWord}, state.Code.{Code, TheVariants.{Root, Script, Waits}}}, Tests.is_empty, Tasks.without_newest, Progress.Plan}
+use Rattle.exec_machine.specs.{declared.{config.{Configuration.Configuration, ScriptWord.{ScriptWord, ScriptWord as word}}, state.Code.{Code, TheVariants.{Root, Script, Waits}}}, Tests.is_empty, Tasks.without_newest, Progress.Plan}
 use Rattle.exec_parts.specs.{Spots.Spot, Scripts.{Asks, IsCodeOf}}
 use Rattle.exec_run.specs.{Asking.{CanAsk, CoversSeen, IsInTime}, declared.{asking.Limits.Limits, script.Asked.Asked}}
 use Rattle.exec_task.specs.{Sight.Sight, declared.body.{Act.{Act, TheVariants.{Register, Await, Drop, Sleep, Spawn, Dedicated, Wake, Yield, Done, Fault}}, Said.{Said, TheVariants.{Admitted, Output, Refused, Pass}}}}
-use Rattle.exec_machine.specs.declared.config.ScriptWord.TheVariants as word
 use Rattle.exec_run.specs.declared.script.Asked.TheVariants as asked
 
 -- a body, with how far it has come: which script it runs, among which; the numbers of its next word and of the one before

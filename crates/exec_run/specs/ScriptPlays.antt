@@ -1,16 +1,12 @@
 -- A body does what its script says.
-use Rattle.std.proofs.Common.{◌≡◌, ℕ, zero, suc, ◌+◌, ◌%◌, ◌<◌, ◌≤◌, ◌^◌, Bool, true, false, List, [], ◌∷◌, All, drop, length, map, Option, Some, None, refl, sym, ap, subst, ◌∙◌, arith, slice_index_or}
-use Rattle.std.{proofs.lemmas.{Bool.true≢false, List.{get_or-drop, Elements.All-tail}, Option.none-some}, specs.Prelude.if◌then◌else◌}
+use Rattle.std.{proofs.{Common.{◌≡◌, ℕ, zero, suc, ◌+◌, ◌%◌, ◌<◌, ◌≤◌, ◌^◌, Bool, true, false, List, [], ◌∷◌, All, drop, length, map, Option, Some, None, refl, sym, ap, subst, ◌∙◌, arith, slice_index_or}, lemmas.{Bool.true≢false, List.{get_or-drop, Elements.All-tail}, Option.none-some}}, specs.Prelude.if◌then◌else◌}
 use Rattle.exec_base.specs.declared.error.Error.TheVariants.{NoMemory}
-use Rattle.exec_machine.specs.{declared.{config.{Configuration.Configuration, ScriptWord.ScriptWord}, state.Code.{Code, TheVariants.{Root, Script, Waits}}}, World.{Task, Common, Open, no_open}, Tests.is_empty, Words.{is_idle_word, idle_words, words_left, next_word, moved_on}, Progress.Plan}
+use Rattle.exec_machine.specs.{declared.{config.{Configuration.Configuration, ScriptWord.{ScriptWord, ScriptWord as word}}, state.Code.{Code, TheVariants.{Root, Script, Waits}}}, World.{Task, Common, Open, no_open}, Tests.is_empty, Words.{is_idle_word, idle_words, words_left, next_word, moved_on}, Progress.Plan}
 use Rattle.exec_outcomes.specs.Accounts.{Account, fresh_account}
 use Rattle.exec_parts.specs.{Spots.{Spot, standing_at, spot_of}, Scripts.{Asks, Covers, IsAnswer, IsAnswered, IsBorn, IsCodeOf, IsNamed, IsSeen, MakesBody, MayRunScript, is_last, held_after, StepPlays, Plays}}
 use Rattle.exec_request.specs.Requests.{target_of}
 use Rattle.exec_run.specs.{declared.script.Asked.Asked, Asking.IsInTime, Script.{Played, Begets, CanPlay, CoversBy, IsNumbered, IsProgram, held_by, held_told, itself, name_of, number_of, place_after, place_by, place_in, script_begun, spot_told, is_passed, passed_over, word_at, word_in, word_of_wait, words_of, asked_by, StepsTo, gives, Runs}}
-use Rattle.exec_task.specs.{Sight.Sight, declared.body.{Act.Act, Said.Said}}
-use Rattle.exec_task.specs.declared.body.Act.TheVariants as act
-use Rattle.exec_task.specs.declared.body.Said.TheVariants as said
-use Rattle.exec_machine.specs.declared.config.ScriptWord.TheVariants as word
+use Rattle.exec_task.specs.{Sight.Sight, declared.body.{Act.{Act, Act as act}, Said.{Said, Said as said}}}
 
 -- THE NEXT WORD
 

@@ -1,8 +1,7 @@
 //! The requests that words ask for.
 
 ghost use Rattle.std.specs.Prelude.{◌≡◌, ◌+◌, ◌<◌, ◌^◌, ℕ, true, false, replicate, Some, IfOk, IfSome, IfNone, OnErr, if◌then◌else◌};
-ghost use Rattle.exec_outcomes.specs.Accounts.{is_durable};
-ghost use Rattle.exec_outcomes.specs.declared.outcome.Kind.TheVariants as kind;
+ghost use Rattle.exec_outcomes.specs.{Accounts.is_durable, declared.outcome.Kind.Kind as kind};
 ghost use Rattle.exec_request.specs.{Hints.asks_hint, Requests.asked_of, Syncing.{is_syncing, write_kind}, declared.buffers.WriteBuffers.TheVariants.Single};
 ghost use Rattle.exec_machine.specs.Requests.{of_file, of_socket};
 ghost use Rattle.exec_task.specs.Sight.{Sight};

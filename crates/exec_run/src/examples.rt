@@ -2,11 +2,10 @@
 
 ghost use Rattle.std.specs.{Prelude.{◌≡◌, ◌≢◌, true, false, [], ◌∷◌, ◌++◌, Some, codes}, Fmt.decimal};
 ghost use Rattle.exec_books.specs.Examples.{its_own, its_request, its_seat, one_asleep, one_send, sending, with_own, with_seat};
-ghost use Rattle.exec_machine.specs.{declared.{state.{RequestPhase.TheVariants.{Resolved, Staged}, Rest.TheVariants.Forever}, event.{Event.TheVariants.{Enter, Rouse, Stage, Turn}, StepResult.{StepResult, TheVariants.{Refused, Did}}}, step.Action.TheVariants.{Clock, GoOn, Work}}, Choice.{Choice, Choice.Plain}, Examples.{Told, usual}, Progress.{Party.{Caller, Worker}, is_solo, longer, no_stretch}, Text.told_lines};
+ghost use Rattle.exec_machine.specs.{declared.{state.{RequestPhase.TheVariants.{Resolved, Staged}, Rest.TheVariants.Forever}, event.{Event.TheVariants.{Enter, Rouse, Stage, Turn}, StepResult.{StepResult, TheVariants.{Refused, Did}}}, step.{Action.TheVariants.{Clock, GoOn, Work}, Step.Step as step}}, Choice.{Choice, Choice.Plain}, Examples.{Told, usual}, Progress.{Party.{Caller, Worker}, is_solo, longer, no_stretch}, Text.told_lines};
 ghost use Rattle.exec_moves.specs.Plays.{first_playing};
 ghost use Rattle.exec_outcomes.specs.declared.outcome.Outcome.TheVariants.{Success};
 ghost use Rattle.exec_run.specs.{Log.{InEach, IsTheLogOf, KeepOwned, NoneOversleeps}, Examples.at_first, declared.{field.Field.TheVariants.{Workers, Layout}, complaint.Complaint.TheVariants.{Usage, Syntax, Config, TooLong}}, Explains.complaint_line, Refusal.{TakesWithin, status_of, text_of_complaint, words_of_trace}};
-ghost use Rattle.exec_machine.specs.declared.step.Step.TheVariants as step;
 
 /// Complaints, and the status that each ends with.
 pub fn complaints()

@@ -9,10 +9,9 @@
 ghost use Rattle.std.specs.Prelude.{◌≡◌, ◌≢◌, ℕ, ◌+◌, ◌<◌, ◌≤◌, ◌^◌, false, is_some, IsTrue, [], length, vec_capacity, Some, IfSome, IfNone, OnOk, OnErr};
 ghost use Rattle.exec_machine.specs.{Progress.Plan, Tasks.without_newest};
 ghost use Rattle.exec_parts.specs.Scripts.{IsBorn};
-ghost use Rattle.exec_run.specs.{Script.{begun, held_by, place_by, newest, script_begun, word_in, word_of_wait, words_of_all, asked_by, CanPlay, IsProgram, IsPlainActOf}, Asking.asks_request};
+ghost use Rattle.exec_run.specs.{Script.{begun, held_by, place_by, newest, script_begun, word_in, word_of_wait, words_of_all, asked_by, CanPlay, IsProgram, IsPlainActOf}, Asking.asks_request, declared.script.Asked.Asked as question};
 ghost use Rattle.exec_task.specs.{declared.body.Act.TheVariants.{Dedicated, Register, Spawn, Wake}, Sight.Sight};
 ghost use Rattle.exec_machine.specs.declared.state.Code.TheVariants as code;
-ghost use Rattle.exec_run.specs.declared.script.Asked.TheVariants as question;
 
 use crate::asking::{Limits, request_of};
 use crate::passing::{next_place, place_past, word_of, word_of_wait};

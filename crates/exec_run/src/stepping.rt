@@ -8,13 +8,12 @@
 
 ghost use Rattle.std.specs.Prelude.{◌≡◌, ◌-◌, ◌^◌, ◌<◌, ◌≤◌, ◌⊎◌, List, ◌∷◌, [], All, length, replicate, sum_by, None, IfOk, IfErr, OnOk, OnErr};
 ghost use Rattle.exec_base.specs.declared.limits.TheConstants.{MOST_STEPS};
-ghost use Rattle.exec_machine.specs.declared.step.Step.TheVariants as step;
-ghost use Rattle.exec_machine.specs.declared.state.Code.TheVariants as code;
-ghost use Rattle.exec_machine.specs.{Progress.Plan, Examples.Told};
+ghost use Rattle.exec_machine.specs.{declared.state.Code.Code as code, Progress.Plan, Examples.Told};
 ghost use Rattle.exec_moves.specs.Plays.{Playing};
 ghost use Rattle.exec_core.specs.Lift.{Carries};
 ghost use Rattle.exec_text.specs.Grammar.{MeaningFits, count_of, meaning_of, StepFits, StepNames};
 ghost use Rattle.exec_run.specs.{Ranges.first_out_of_range, Log.{Gave, IsTheLogOf, told_text}, Script.{begun, words_of_all}, Steps.{BrokeBy, GaveUpTo, StandsAt, TakesLine, BreaksLine, Leads, Breaks}};
+ghost use Rattle.exec_machine.specs.declared.step.Step.TheVariants as step;
 
 use crate::asking::Limits;
 use crate::script::{Program, Script, Scripts};

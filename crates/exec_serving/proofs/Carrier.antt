@@ -1,13 +1,12 @@
 -- What keeps what the kernel has, where entries go into the submission queue and the kernel takes them in.
-use Rattle.std.{proofs.{Common.{◌≡◌, ℕ, ◌==◌, ◌&&◌, Bool, true, false, cond, List, [], ◌∷◌, ◌++◌, filter, Some, refl, sym, ap, subst, ◌∙◌, arith, slice_get, sum_by, if◌then◌else◌}, lemmas.{Bool.{false≢true}, List.{append-nil, append_assoc, Elements.filter-append}}}, specs.{List.fold}}
-use Rattle.exec_base.specs.{Slab.{Slab}, declared.slab.Id.Id}
-use Rattle.exec_request.specs.{declared.{request.Request.Request as Asking, window.{Opcode.Opcode}}}
+use Rattle.std.{proofs.{Common.{◌≡◌, ℕ, ◌==◌, ◌&&◌, Bool, true, false, cond, List, [], ◌∷◌, ◌++◌, filter, Some, refl, sym, ap, subst, ◌∙◌, arith, slice_get, sum_by, if◌then◌else◌}, lemmas.{Bool.false≢true, List.{append-nil, append_assoc, Elements.filter-append}}}, specs.List.fold}
+use Rattle.exec_base.specs.{Slab.Slab, declared.slab.Id.Id}
+use Rattle.exec_request.specs.declared.{request.Request.Request as Asking, window.Opcode.Opcode}
 use Rattle.exec_ring.specs.{Kernels.{taken_as, taken_in, all_taken}, Rings.RingState, declared.{completion.Submission.Submission, store.Store.Store}}
 use Rattle.exec_waiters.specs.{Ids.user_data_of, States.waiter_at, declared.waiter.{Entry.Entry, Waiter.Waiter}}
 use Rattle.exec_machine.specs.{declared.state.{Request.Request, RequestPhase.RequestPhase}, Tests.is_staged}
 use Rattle.exec_parts.specs.{declared.parts.{mail.Reply.Reply, record.Record.Record}, Records.number_in, Serving.{flies, flown_in, is_one_of}}
-use Rattle.exec_invariants.proofs.Flying.{flies_if, get_flown}
-use Rattle.exec_invariants.{specs.Carried.{IsCarried, IsUnderWay, IsWhole, may_move, those_of}, proofs.Carrying.sum_changed}
+use Rattle.exec_invariants.{proofs.{Flying.{flies_if, get_flown}, Carrying.sum_changed}, specs.Carried.{IsCarried, IsUnderWay, IsWhole, may_move, those_of}}
 
 -- WHAT THE KERNEL TAKES IN
 

@@ -1,15 +1,13 @@
 -- The end of the stagings of a service.
 use Rattle.std.proofs.{Common.{◌≡◌, ℕ, ◌+◌, ◌==◌, ◌&&◌, ◌||◌, Bool, true, false, not, List, [], ◌∷◌, ◌++◌, length, Option, None, refl, sym, ap, subst, ◌∙◌, arith, nat_lt, if◌then◌else◌}, lemmas.{Bool.false≢true, List.length-append}}
-use Rattle.exec_ring.specs.{declared.completion.Submission.Submission}
-use Rattle.exec_waiters.specs.{States.{pending_count}}
+use Rattle.exec_ring.specs.declared.completion.Submission.{Submission}
+use Rattle.exec_waiters.specs.States.{pending_count}
 use Rattle.exec_driver.specs.{Driving.{Driving, may_stage_one, is_full as is_ring_full}, Steps.{wake_entry, lowest_gate, poll_staged}}
 use Rattle.exec_task.specs.declared.body.Said.{Said}
 use Rattle.exec_machine.specs.{declared.{config.Configuration.Configuration, event.Event.{Event, TheVariants.{Serve, Busy}}, state.MailMessage.MailMessage}, Choice.Choice.Plain, Progress.Plan, Ranges.ring_size}
 use Rattle.exec_moves.specs.{Callback.{has_requests, is_full}, Serve.{Ring, enter, enters, after_staging}, Move.{move_at, move_submit}, Seen.serves_at, State.Desk, Submit.{stage_next, staging_due, request_due, with_poll, Due.{Ends, Flushes}}, Thing.{ring_of, set_wake_poll, with_ring}, declared.place.{InService.InService, Service.Service, Place.Place, Reaping.Reaping}}
-use Rattle.exec_invariants.proofs.Keeping.{SameButRing, keeps_ring, same_ring}
+use Rattle.exec_invariants.{proofs.{Keeping.{SameButRing, keeps_ring, same_ring}, Serving.{at_large, balances_still, SparesRecords, spares_same}, ServingHolds.{serves_to, IsServed, Follows, Serves, Keeps, KeepsBy}, Conveying.control_entry, Raising.{driver_is, flush_taken, lists_taken, sound_taken, still_lists}, Seeing.{makes, own_with, desk_with, visible_with, served, common_same, ring_again, things_kept}, Staging.{staging_next, flush_seen, stages_again, idle_at, suits_at}, Standing.{requests_seen, submissions_seen}, Untold.{ToldOnDesk, told_there}}, specs.{Raises.{Enters, TakesRaises}, Submitting.{EndsStaging, with_wake_poll, must_flush, after_flush}, Flown.{IsPolled, is_poll, polls_in}, Places.{one_if, passes_at}, Sound.SoundAt, Submits.IsIdle, Works.{Suits, Steps}}}
 use Rattle.exec_parts.specs.{declared.parts.{mail.Reply.Reply, shared.Shared.Shared, worker.{PutOff.PutOff, Worker.Worker}}, Serving.{AreTagged, EntersRing, cancels_in, enters_after, with_staging_ended}, Spots.Spot, Tests.has_open_requests, View.{Views, visible, own_of, desk_of, driver_of, common_of, seat_seen, things_with}}
-use Rattle.exec_invariants.specs.{Raises.{Enters, TakesRaises}, Submitting.{EndsStaging, with_wake_poll, must_flush, after_flush}}
-use Rattle.exec_invariants.{specs.{Flown.{IsPolled, is_poll, polls_in}, Places.{one_if, passes_at}, Sound.SoundAt, Submits.IsIdle, Works.{Suits, Steps}}, proofs.{Serving.{at_large, balances_still, SparesRecords, spares_same}, ServingHolds.{serves_to, IsServed, Follows, Serves, Keeps, KeepsBy}, Conveying.control_entry, Raising.{driver_is, flush_taken, lists_taken, sound_taken, still_lists}, Seeing.{makes, own_with, desk_with, visible_with, served, common_same, ring_again, things_kept}, Staging.{staging_next, flush_seen, stages_again, idle_at, suits_at}, Standing.{requests_seen, submissions_seen}, Untold.{ToldOnDesk, told_there}}}
 use Rattle.exec_serving.proofs.Entered.{MovesBy, entered, led_to, ring_seen}
 
 -- THE WAKE POLL

@@ -8,10 +8,8 @@ use Rattle.exec_task.specs.declared.body.Said.{Said}
 use Rattle.exec_machine.specs.{declared.event.Event.{Event, TheVariants.{Enter, Busy}}, Choice.Choice.Plain, World.{Own, Seat, Common}, Progress.Plan, Requests.flown}
 use Rattle.exec_moves.specs.{declared.{idling.{Stay.Stay, InRingWait.InRingWait}, place.{Service.Service, Place.Place, InService.InService, Reaping.Reaping}}, State.{Desk, Things, Moved, wake_poll_of, taken_in as poll_taken}, Thing.{ring_of, set_wake_poll, with_ring}, Move.move_at, Serve.{Ring, at_place, enter}}
 use Rattle.exec_parts.specs.{declared.parts.{mail.Reply.Reply, shared.Shared.Shared, worker.{PutOff.PutOff, Worker.Worker}}, Records.number_in, Serving.{EntersRing, flown_in}, Spots.Spot, View.{Views, visible, with_view, own_of, desk_of, driver_of, common_of, seat_seen, numbers_of_passing, open_seen, things_with, trailing}}
-use Rattle.exec_invariants.{specs.Raises.Enters, proofs.Flying.all_flown}
-use Rattle.exec_invariants.{specs.{Carried.IsCarried, Sound.{SoundAt, served_in}, Names.{IsNamed, IsSubmitted}, Due.{IsWheelAt, may_be_due}, Flown.{IsPolled, operations}, Holding.{nap_of, thing_of}, Places.passes_at, Works.{Suits, Steps}}, proofs.{Spared.sleepers_endure, Seats.own_seat, Conveying.carried_ring, Lined.{KeepsLines, gates_seen_same, lines_flown, opens_same, passing_same, was_sent}, Serving.{balances_still, kept, SparesRecords, spares_same}, ServingHolds.{Follows, Serves, Keeps, KeepsBy, keeps_all, nap_sent}, ServingPlaces.calm, Keys.{same_opens, flown_names}, Raising.{lists_taken, none_waits, poll_shows, poll_shown, raised_first, sound_taken}, Seeing.{Sees, common_same, served, shows}, Shown.{desk_with}, WokenEntered.{all_acknowledged, enter_polled, enter_shown}, Going.{over_on, rooted_on}}}
+use Rattle.exec_invariants.{specs.{Raises.Enters, Carried.IsCarried, Sound.{SoundAt, served_in}, Names.{IsNamed, IsSubmitted}, Due.{IsWheelAt, may_be_due}, Flown.{IsPolled, operations}, Holding.{nap_of, thing_of}, Places.passes_at, Works.{Suits, Steps}}, proofs.{Flying.all_flown, Spared.sleepers_endure, Seats.own_seat, Conveying.carried_ring, Lined.{KeepsLines, gates_seen_same, lines_flown, opens_same, passing_same, was_sent}, Serving.{balances_still, kept, SparesRecords, spares_same}, ServingHolds.{Follows, Serves, Keeps, KeepsBy, keeps_all, nap_sent}, ServingPlaces.calm, Keys.{same_opens, flown_names}, Raising.{lists_taken, none_waits, poll_shows, poll_shown, raised_first, sound_taken}, Seeing.{Sees, common_same, served, shows}, Shown.desk_with, WokenEntered.{all_acknowledged, enter_polled, enter_shown}, Going.{over_on, rooted_on}, MailApplies.seats_viewed}}
 use Rattle.exec_serving.proofs.{Carrier.carried_entered, Entering.{submitted_busy, submitted_free, named_beside, named_free, all_go, timed_flown, flown_entered, others_flown, others_were, known_flown, things_flown}}
-use Rattle.exec_invariants.proofs.MailApplies.{seats_viewed}
 
 -- the ring that a worker shows, where no wake waits at its seat
 abbrev pub ring_seen : Worker → Ring

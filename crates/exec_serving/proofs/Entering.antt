@@ -1,18 +1,16 @@
 -- What an enter is to the machine.
-use Rattle.std.{proofs.{Common.{◌≡◌, ◌≢◌, ℕ, ◌+◌, ◌≤◌, ◌==◌, ◌&&◌, Bool, true, false, List, [], ◌∷◌, length, map, Option, Some, None, refl, sym, ap, subst, ◌∙◌, slice_get, if◌then◌else◌}, lemmas.Bool.{false≢true}}, specs.{Option.option_map, Vec.vec_capacity}}
-use Rattle.std.proofs.Common.{arith}
+use Rattle.std.{proofs.{Common.{◌≡◌, ◌≢◌, ℕ, ◌+◌, ◌≤◌, ◌==◌, ◌&&◌, Bool, true, false, List, [], ◌∷◌, length, map, Option, Some, None, refl, sym, ap, subst, ◌∙◌, slice_get, if◌then◌else◌, arith}, lemmas.Bool.false≢true}, specs.{Option.option_map, Vec.vec_capacity}}
 use Rattle.exec_base.specs.Slab.{Slab}
 use Rattle.exec_outcomes.specs.declared.outcome.OpResult.{OpResult}
 use Rattle.exec_time.specs.declared.timers.Sleeper.{Sleeper as Sleeping}
 use Rattle.exec_ring.specs.{Kernels.Landing, Rings.RingState}
-use Rattle.exec_waiters.specs.{States.{waiter_at}, declared.waiter.{Entry.Entry, Waiter.Waiter}}
+use Rattle.exec_waiters.specs.{States.waiter_at, declared.waiter.{Entry.Entry, Waiter.Waiter}}
 use Rattle.exec_driver.specs.Driving.{Driving}
 use Rattle.exec_opens.specs.Opens.{OpenState}
 use Rattle.exec_machine.specs.{declared.state.{Request.Request, RequestPhase.RequestPhase}, Requests.flown, Tests.{is_staged, is_resolved}}
 use Rattle.exec_moves.specs.declared.place.InService.{InService}
 use Rattle.exec_parts.{specs.{declared.parts.{mail.Reply.Reply, names.Names.Names, record.Record.Record, sleeping.SleeperRecord.SleeperRecord}, Records.number_in, Serving.{changed_at, changed_in, flies, flown_in, is_one_of}}, proofs.Facts.second_true}
-use Rattle.exec_invariants.proofs.Flying.{flies_if, worker_kept, get_flown}
-use Rattle.exec_invariants.{specs.{Due.AreTimed, Flown.{IsPlain, IsPolled, HasFlown, operations}, Gates.{IsKnown, at_gate}, Holding.thing_of, Names.{IsNamed, IsAlike, IsSubmitted}}, proofs.{Lined.{length_map, lines_flown}, Flown.landed_on, Going.{GoesOn, AllGoOn, still, same_worker, thing_on, things_changed}, Known.known_on}}
+use Rattle.exec_invariants.{proofs.{Flying.{flies_if, worker_kept, get_flown}, Lined.{length_map, lines_flown}, Flown.landed_on, Going.{GoesOn, AllGoOn, still, same_worker, thing_on, things_changed}, Known.known_on}, specs.{Due.AreTimed, Flown.{IsPlain, IsPolled, HasFlown, operations}, Gates.{IsKnown, at_gate}, Holding.thing_of, Names.{IsNamed, IsAlike, IsSubmitted}}}
 
 -- A REQUEST THAT FLIES
 

@@ -1,8 +1,7 @@
 -- The request that a completion is of.
-use Rattle.std.proofs.{Common.{◌≡◌, List, Some, None, ap, ◌∙◌, if◌then◌else◌}}
-use Rattle.std.proofs.Common.{arith}
+use Rattle.std.proofs.Common.{◌≡◌, List, Some, None, ap, ◌∙◌, if◌then◌else◌, arith}
 use Rattle.exec_ring.specs.{Completions.result_in, declared.completion.Completion.Completion}
-use Rattle.exec_waiters.{specs.{States.{named}}}
+use Rattle.exec_waiters.specs.States.{named}
 use Rattle.exec_driver.specs.{Driving.Driving, Steps.{completed_in, if_lawful, lawful_of}}
 use Rattle.exec_parts.specs.declared.parts.{mail.Reply.Reply, names.Names.Names, record.Record.Record}
 use Rattle.exec_invariants.specs.Flown.{HasLanded}

@@ -1,15 +1,12 @@
 -- A sleeper fires: what tasks hold, and what stays of all workers' balances.
 use Rattle.std.proofs.{Common.{rules, ◌≡◌, ◌⊎◌, ℕ, zero, suc, ◌+◌, ◌<◌, ◌≤◌, ◌==◌, ◌||◌, Bool, true, false, cond, List, ◌++◌, count_by, map, sum_by, Some, if◌then◌else◌, refl, sym, ap, subst, ◌∙◌, arith, inl, inr, slice_get, slice_set}, lemmas.Bool.false≢true}
 use Rattle.exec_base.specs.declared.task_no.TaskNo.{TaskNo}
-use Rattle.exec_time.specs.{Sleepers.wakes_of, declared.timers.Observer.Observer as Watching}
-use Rattle.exec_time.specs.declared.timers.Observer.TheVariants as sleep
+use Rattle.exec_time.specs.{Sleepers.wakes_of, declared.timers.Observer.{Observer as Watching, Observer as sleep}}
 use Rattle.exec_words.specs.declared.inbox.Message.{Message}
 use Rattle.exec_machine.specs.Tests.{is_unsent}
 use Rattle.exec_moves.specs.declared.place.Place.{Place}
-use Rattle.exec_parts.{specs.declared.parts.{mail.Reply.Reply, shared.Shared.Shared, sleeping.SleeperRecord.SleeperRecord, worker.Worker.Worker}, proofs.Facts.{same_number, same_Some, set_there}}
-use Rattle.exec_invariants.proofs.Showing.{map_set}
-use Rattle.exec_invariants.{specs.{Holding.{Awaits, Box, Hands, Holder, IsHolding, IsOwed, Mail, Nap, Owes, Thing, box_of, holder_of, IsForwarded, mail_in, nap_of, thing_of, under_way, waiters}, Places.passes_at, Whole.{Profile, hands_of, wakes_with, with_worker}}, proofs.{Fired.fires, HoldSleeps.nap_redone, Lined.mapped, ServedEnds.{count_both, count_none, count_one}, Serving.{Balances, SparesRecords, gates_still, hands_served}, ServingHolds.Serves}}
-use Rattle.exec_parts.specs.declared.parts.mail.Subject.TheVariants as subject
+use Rattle.exec_parts.{specs.declared.parts.{mail.{Reply.Reply, Subject.Subject as subject}, shared.Shared.Shared, sleeping.SleeperRecord.SleeperRecord, worker.Worker.Worker}, proofs.Facts.{same_number, same_Some, set_there}}
+use Rattle.exec_invariants.{proofs.{Showing.map_set, Fired.fires, HoldSleeps.nap_redone, Lined.mapped, ServedEnds.{count_both, count_none, count_one}, Serving.{Balances, SparesRecords, gates_still, hands_served}, ServingHolds.Serves}, specs.{Holding.{Awaits, Box, Hands, Holder, IsHolding, IsOwed, Mail, Nap, Owes, Thing, box_of, holder_of, IsForwarded, mail_in, nap_of, thing_of, under_way, waiters}, Places.passes_at, Whole.{Profile, hands_of, wakes_with, with_worker}}}
 
 -- WHAT TASKS HOLD AND ARE OWED
 

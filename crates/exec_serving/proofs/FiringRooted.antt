@@ -1,8 +1,7 @@
 -- A sleeper fires: what its worker keeps of sleepers, what is sent elsewhere, and the room for that.
 use Rattle.std.proofs.{Common.{◌≡◌, ◌≢◌, ℕ, ◌+◌, ◌≤◌, ◌||◌, false, Contains, List, ◌++◌, count_by, length, Some, None, IsSome, Ok, refl, sym, ap, subst, ◌∙◌, arith, inl, inr, slice_get, slice_set}, lemmas.{Bool.{false≢true, eq-eqb}, List.{length-append, Elements.Contains-append_cases}}}
 use Rattle.exec_base.specs.{Slab.{Slab, value_at}, declared.slab.Id.Id}
-use Rattle.exec_time.specs.{Notes.Adds, Sleepers.{completions_of, wakes_of}, declared.{notes.ForwardedResult.ForwardedResult, timers.{Observer.Observer as Watching, Sleeper.Sleeper as Sleeping}}}
-use Rattle.exec_time.specs.declared.timers.Observer.TheVariants as sleep
+use Rattle.exec_time.specs.{Notes.Adds, Sleepers.{completions_of, wakes_of}, declared.{notes.ForwardedResult.ForwardedResult, timers.{Observer.{Observer as Watching, Observer as sleep}, Sleeper.Sleeper as Sleeping}}}
 use Rattle.exec_waiters.specs.declared.deferred.Deferred.{Deferred}
 use Rattle.exec_driver.specs.Driving.{Driving}
 use Rattle.exec_machine.specs.Tests.{is_applied}

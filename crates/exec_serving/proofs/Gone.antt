@@ -1,11 +1,10 @@
 -- An operation that has landed, whose request is over: a step.
-use Rattle.std.{proofs.{Common.{◌≡◌, ◌≢◌, ℕ, ◌<◌, ◌==◌, ◌&&◌, Bool, true, false, not, List, [], ◌∷◌, ◌++◌, length, map, Option, Some, None, IsSome, if◌then◌else◌, refl, sym, ap, subst, ◌∙◌, ◌-◌, filter, slice_get, slice_index_or}, lemmas.Bool.{eq-eqb, false≢true}}, specs.VecDeque.deque_capacity}
-use Rattle.std.proofs.Common.{arith}
-use Rattle.exec_base.specs.{Slab.{Slab, value_at, written}, declared.slab.{Id.Id}}
+use Rattle.std.{proofs.{Common.{◌≡◌, ◌≢◌, ℕ, ◌<◌, ◌==◌, ◌&&◌, Bool, true, false, not, List, [], ◌∷◌, ◌++◌, length, map, Option, Some, None, IsSome, if◌then◌else◌, refl, sym, ap, subst, ◌∙◌, ◌-◌, filter, slice_get, slice_index_or, arith}, lemmas.Bool.{eq-eqb, false≢true}}, specs.VecDeque.deque_capacity}
+use Rattle.exec_base.specs.{Slab.{Slab, value_at, written}, declared.slab.Id.Id}
 use Rattle.exec_outcomes.specs.{Accounts.{Account, by_failure, is_durable, outcome_told as told_of}, Outcomes.{is_unsupported, refuses_hint}, declared.outcome.Outcome.{Outcome, TheVariants.{Failure, Success}}}
-use Rattle.exec_request.specs.{Hints.without_hint, Judging.judged_as, Requests.{asked_of, cursor_of, hinted_of, output_of, record_after, target_of}, declared.{request.Request.Request as Asking}, States.{Ended, as_outcome, asks_cancel, result_of, told_by}}
+use Rattle.exec_request.specs.{Hints.without_hint, Judging.judged_as, Requests.{asked_of, cursor_of, hinted_of, output_of, record_after, target_of}, declared.request.Request.Request as Asking, States.{Ended, as_outcome, asks_cancel, result_of, told_by}}
 use Rattle.exec_ring.specs.{Completions.result_in, declared.completion.Completion.Completion, Rings.completions}
-use Rattle.exec_waiters.{specs.{States.{file_of, flying_count}, Events.{waker_in, told_by_finish}, declared.{waiter.{Entry.{Entry, TheVariants.Pending}, Waiter.Waiter}, waiter_id.WaiterId.WaiterId}, Told.{Tells}}, proofs.Changes.{one_if, entry_of}}
+use Rattle.exec_waiters.{specs.{States.{file_of, flying_count}, Events.{waker_in, told_by_finish}, declared.{waiter.{Entry.{Entry, TheVariants.Pending}, Waiter.Waiter}, waiter_id.WaiterId.WaiterId}, Told.Tells}, proofs.Changes.{one_if, entry_of}}
 use Rattle.exec_driver.specs.{Driving.{Driving, request_at, is_queued, is_unenrolled, is_cancelled}, Punctual.IsPunctual, Placed.ListsRequests, Steps.open_after}
 use Rattle.exec_opens.specs.Opens.{OpenState, account_by, account_in, with_account}
 use Rattle.exec_task.specs.declared.body.Said.{Said}

@@ -2,15 +2,14 @@
 use Rattle.std.proofs.{Common.{◌≡◌, ℕ, zero, suc, Option, Some, ◌&&◌, List, [], ◌∷◌, ◌++◌, map, refl, sym, ap, subst, ◌∙◌, arith, slice_get, slice_set, slice_index_or}, lemmas.List.map-append}
 use Rattle.exec_outcomes.specs.{Accounts.is_durable, declared.outcome.OpResult.OpResult}
 use Rattle.exec_request.specs.declared.request.Request.{Request as Asking}
-use Rattle.exec_ring.specs.{Completions.completed}
+use Rattle.exec_ring.specs.Completions.{completed}
 use Rattle.exec_moves.specs.{State.{passed, wake_poll_of}, Thing.set_wake_poll}
 use Rattle.exec_waiters.{specs.{Ids.user_data_of, States.flying_count, declared.waiter.Entry.TheVariants.Pending}, proofs.Changes.entry_of}
 use Rattle.exec_base.specs.Slab.{value_at}
 use Rattle.exec_task.specs.declared.body.Said.{Said}
-use Rattle.exec_machine.specs.{Callers.after_landing, Progress.Plan, Tests.is_resolved, World.{Seat}, declared.state.Rest.TheVariants.Awake}
+use Rattle.exec_machine.specs.{Callers.after_landing, Progress.Plan, Tests.is_resolved, World.Seat, declared.state.Rest.TheVariants.Awake}
 use Rattle.exec_parts.specs.{declared.parts.{record.Record.Record, seat.Seat.Seat as Chair, shared.Shared.Shared, worker.Worker.Worker}, Phased.TurnsChair, Records.roused, Spots.Spot, View.{Views, Visible, awaited_from, common_of, desk_of, driver_of, gate_seen, number_told, numbers_of_passing, open_seen, own_of, seat_seen, seats_seen, slots_seen, things_with, visible, wake_poll_in, with_view}}
-use Rattle.exec_invariants.proofs.Showing.{map_kept}
-use Rattle.exec_invariants.{specs.{Carried.{HasRoom, landing, may_move}, Flown.operations, Gates.HaveGates, Holding.{IsHolding, box_of, holder_of, nap_of, thing_of}, Sound.Sound, Spares.Spares, Whole.{IsWhole, hands_of, with_worker}, Works.{Beside, Suits}}, proofs.{Aside.{SameProfile, profile_same, queue_of_chair, queues_set, seats_own, spares_turn, whole_same}, Serving.{spares_service}, Seats.own_seat, Recorded.{request_seen, shown_changed}, Carrying.{index_told, one_landed, sum_changed}, Changing.flying_after, Going.{thing_on, things_changed}, Keys.{name_in, names_changed, same_opens}, Lined.{gates_kept, gates_seen_same, opens_same, passing_same, was_sent}, Raising.{poll_shows, poll_shown, rest_shows}, Shown.{own_with, visible_with}, Slotted.{awaited_written, slots_written}, PoolKept.gates_set}}
+use Rattle.exec_invariants.{proofs.{Showing.map_kept, Aside.{SameProfile, profile_same, queue_of_chair, queues_set, seats_own, spares_turn, whole_same}, Serving.spares_service, Seats.own_seat, Recorded.{request_seen, shown_changed}, Carrying.{index_told, one_landed, sum_changed}, Changing.flying_after, Going.{thing_on, things_changed}, Keys.{name_in, names_changed, same_opens}, Lined.{gates_kept, gates_seen_same, opens_same, passing_same, was_sent}, Raising.{poll_shows, poll_shown, rest_shows}, Shown.{own_with, visible_with}, Slotted.{awaited_written, slots_written}, PoolKept.gates_set}, specs.{Carried.{HasRoom, landing, may_move}, Flown.operations, Gates.HaveGates, Holding.{IsHolding, box_of, holder_of, nap_of, thing_of}, Sound.Sound, Spares.Spares, Whole.{IsWhole, hands_of, with_worker}, Works.{Beside, Suits}}}
 use Rattle.exec_serving.proofs.{LandMoves.{Leaves, Refilled, less_moves}, Landing.{Lander, driver_then, landing_on, place_of, records_then, there_so, waiter_then}, Landed.{landed_lines, landed_spares}}
 
 -- two changes at one place

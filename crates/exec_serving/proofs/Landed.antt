@@ -1,13 +1,12 @@
 -- A result has landed: what holds again.
-use Rattle.std.proofs.{Common.{◌≡◌, ⊎_elim, inl, inr, ℕ, ◌+◌, ◌≤◌, Bool, Contains, List, Option, Some, None, refl, sym, ap, subst, ◌∙◌, slice_get, slice_set}}
-use Rattle.std.proofs.Common.{arith}
+use Rattle.std.proofs.Common.{◌≡◌, ⊎_elim, inl, inr, ℕ, ◌+◌, ◌≤◌, Bool, Contains, List, Option, Some, None, refl, sym, ap, subst, ◌∙◌, slice_get, slice_set, arith}
 use Rattle.exec_base.{specs.{Slab.{Slab, value_at, written}, declared.slab.Id.Id}, proofs.Slots.Updates-write}
 use Rattle.exec_outcomes.specs.declared.outcome.OpResult.{OpResult}
 use Rattle.exec_time.specs.declared.timers.Sleeper.{Sleeper as Sleeping}
 use Rattle.exec_request.specs.declared.request.Request.{Request as Asking}
 use Rattle.exec_waiters.{specs.{States.{is_held_at, is_held_by, pending_count, waiter_at}, declared.waiter.{Entry.{Entry, TheVariants.Pending}, Waiter.Waiter}}, proofs.Changes.entry_of}
 use Rattle.exec_driver.specs.{Driving.Driving, Punctual.IsPunctual}
-use Rattle.exec_machine.specs.{Ranges.ring_size, Tests.{is_unsent}, declared.state.{Rest.TheVariants.Awake, Waiting.Waiting}}
+use Rattle.exec_machine.specs.{Ranges.ring_size, Tests.is_unsent, declared.state.{Rest.TheVariants.Awake, Waiting.Waiting}}
 use Rattle.exec_moves.specs.{Seen.polls_at, declared.{handing.Heard.Heard, place.{InClosing.InClosing, InPoll.InPoll}}}
 use Rattle.exec_parts.{specs.{declared.parts.{mail.{Reply.Reply, Subject.Subject}, record.Record.Record, shared.Shared.Shared, sleeping.SleeperRecord.SleeperRecord, task_slot.TaskSlot.TaskSlot, worker.Worker.Worker}, Phased.{TurnsChair, closing_in}, Records.roused, Calls.IsTold, View.driver_of}, proofs.Facts.by_name}
 use Rattle.exec_invariants.{specs.{Carried.{IsCarried, landing}, Due.IsDue, Flown.HasFlown, Gates.{AreLinedUp, IsKnown}, Holding.Mail, HoldPlaces.{Hearing, cancels_at, heard_at, is_bare_at, sends_cancel_at, spare_at}, Places.step_of_poll, Rooted.{HasHeard, HearsNext, IsRooted}, Sound.{AreOver, HasLetters, IsMyMail, LetsGo, LetsGoAt, MayStop, Sound, SoundAt, Stops, StopsIn, served_in}, Names.{HasWidth, IsNamed, tellers}}, proofs.{Serving.{SparesRecords, letter_kept, mail_kept, spares_one}, Going.{AllGoOn, elsewhere_same, over_on, rooted_on, same_paid, same_waiter, same_worker}, Changing.{named_one, pending_still, ready_before, some_after, tellers_still, timed_one, watched_before}, Lined.{KeepsLines, SameAtGate, lined_kept, lines_changed, opens_same}, Raising.seat_kept, Orders.{alike_self, eased, eases_written, part_self}}}

@@ -1,6 +1,5 @@
 -- A result lands: whose request it is, and what becomes of that.
-use Rattle.std.proofs.{Common.{◌≡◌, ◌≢◌, ℕ, ◌<◌, ◌==◌, ◌&&◌, inl, not, Bool, true, false, List, [], ◌∷◌, ◌++◌, map, Option, Some, None, refl, sym, ap, subst, ◌∙◌, is_some, slice_get, slice_index_or}, lemmas.{Bool.{false≢true, eq-eqb}, List.{map-append, Folds.list_any-append}}}
-use Rattle.std.proofs.Common.{arith}
+use Rattle.std.proofs.{Common.{◌≡◌, ◌≢◌, ℕ, ◌<◌, ◌==◌, ◌&&◌, inl, not, Bool, true, false, List, [], ◌∷◌, ◌++◌, map, Option, Some, None, refl, sym, ap, subst, ◌∙◌, is_some, slice_get, slice_index_or, arith}, lemmas.{Bool.{false≢true, eq-eqb}, List.{map-append, Folds.list_any-append}}}
 use Rattle.exec_base.specs.{Slab.{value_at, written}, declared.slab.Id.Id}
 use Rattle.exec_outcomes.specs.{Accounts.is_durable, Lawful.{is_lawful, window_of}, declared.outcome.OpResult.OpResult}
 use Rattle.exec_request.specs.{Requests.{asked_of, cursor_of, deadline_of, target_of}, declared.request.Request.Request as Asking}
@@ -8,7 +7,7 @@ use Rattle.exec_ring.specs.{Completions.{completed, number_of, result_in}, Kerne
 use Rattle.exec_waiters.{specs.{Ids.user_data_of, States.{needs_permit, takes_tick, waiter_at}, declared.waiter.{Entry.TheVariants.Pending, Waiter.Waiter}}, proofs.Changes.entry_of}
 use Rattle.exec_driver.specs.{Driving.Driving, Steps.LandsOne}
 use Rattle.exec_lists.proofs.Counting.{OneChanged}
-use Rattle.exec_machine.specs.{declared.state.{RequestPhase.RequestPhase}, Tests.{is_in_flight, is_resolved, is_staged}}
+use Rattle.exec_machine.specs.{declared.state.RequestPhase.RequestPhase, Tests.{is_in_flight, is_resolved, is_staged}}
 use Rattle.exec_parts.{specs.{declared.parts.{mail.Reply.Reply, record.Record.Record, shared.Shared.Shared, worker.Worker.Worker}, Records.number_in, Serving.changed_at, View.{driver_of, number_told}}, proofs.Facts.{and_parts, by_name, not_same}}
 use Rattle.exec_invariants.{specs.{Carried.{HasStretchFor, IsCarried, IsLone, IsUnderWay, IsWhole, MayLand, those_of, landing}, Flown.{AreLanded, HasFlown, HasLanded, IsPlain, operations}, Gates.IsKnown, Sound.{Sound, served_in}, Names.{IsAlike, IsSubmitted}}, proofs.{Marking.{known_then, mark_kept, mark_if, marked, plain_kept, was_marked}, Carrying.{others_fly, one_landed, index_told, generation_told, result_told, lone_removed}, Changing.{OneGoesOn, all_go_one, apart_number, changes_one}, Conveying.carried_one, Flown.landed_on, Going.{AllGoOn, GoesOn, owning_on}, Known.known_written}}
 use Rattle.exec_serving.proofs.LandMoves.{Lands, Leaves, MayFly, Refilled, may_fly, flown_so, less_moves, room_landed, stretch_then}

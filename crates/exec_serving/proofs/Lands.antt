@@ -6,8 +6,7 @@ use Rattle.exec_task.specs.declared.body.Said.{Said}
 use Rattle.exec_machine.specs.{Callers.after_landing, Progress.Plan}
 use Rattle.exec_moves.specs.{State.{Desk, passed, wake_poll_of}, Thing.set_wake_poll}
 use Rattle.exec_parts.{specs.{declared.parts.{seat.Seat.Seat as Chair, shared.Shared.Shared, worker.Worker.Worker}, Phased.TurnsChair, Records.{landed_on, roused}, Spots.Spot, View.{Views, visible, with_view, driver_of, own_of, desk_of, common_of, things_with}}, proofs.Facts.set_there}
-use Rattle.exec_invariants.specs.Raises.{TakesRaises}
-use Rattle.exec_invariants.{specs.{Sound.Sound, Works.{Beside, Suits}}, proofs.Raising.{beside_first, common_taken, desk_taken, own_taken, set_twice, suits_taken, things_taken, view_twice}}
+use Rattle.exec_invariants.{specs.{Raises.TakesRaises, Sound.Sound, Works.{Beside, Suits}}, proofs.Raising.{beside_first, common_taken, desk_taken, own_taken, set_twice, suits_taken, things_taken, view_twice}}
 use Rattle.exec_serving.proofs.{LandMoves.{Leaves, Refilled}, Landing.{Lander, driver_then, records_then}, LandSeen.{landed_beside, landed_common, landed_desk, landed_own, landed_things}}
 
 module _ {B L : Type 0} (left : B → L) (spot : L → Option Said → Spot) (w w1 w' : Worker) (s s1 s' : Shared B) (k : ℕ) (n : OpResult) (sound : Sound w s) (takes : TakesRaises w s w1 s1) (sound1 : Sound w1 s1) (who : Lander w1 s1 k n)

@@ -4,10 +4,9 @@ use Rattle.exec_ring.specs.{Kernels.{is_quiet, all_taken}, Rings.{RingState, com
 use Rattle.exec_driver.specs.Steps.{is_control}
 use Rattle.exec_task.specs.declared.body.Said.{Said}
 use Rattle.exec_machine.specs.{declared.event.Event.{Event, TheVariants.{Enter, Busy}}, Tests.is_empty, World.Own}
-use Rattle.exec_moves.specs.{declared.idling.{Stay.Stay, AfterWait.AfterWait, InRingWait.InRingWait}, declared.place.Place.Place, Serve.{Ring, enter, entered as desk_entered}, State.{Desk, Things, taken_in as poll_taken}, Thing.with_ring, Wait.{enter_ring, has_completion}}
+use Rattle.exec_moves.specs.{declared.{idling.{Stay.Stay, AfterWait.AfterWait, InRingWait.InRingWait}, place.Place.Place}, Serve.{Ring, enter, entered as desk_entered}, State.{Desk, Things, taken_in as poll_taken}, Thing.with_ring, Wait.{enter_ring, has_completion}}
 use Rattle.exec_parts.specs.{declared.parts.{shared.Shared.Shared, worker.Worker.Worker}, Serving.EntersRing, Spots.Spot, Tests.after_enter_of, View.{visible, driver_of, own_of, desk_of, number_told, things_with, trailing}}
-use Rattle.exec_invariants.specs.Raises.{Enters}
-use Rattle.exec_invariants.{specs.{Places.passes_at, Sound.SoundAt, Works.Steps}, proofs.{Raising.sound_taken, ServingHolds.Follows, Swept.some_grouped, WokenEntered.{all_acknowledged, enter_shown}}}
+use Rattle.exec_invariants.{specs.{Raises.Enters, Places.passes_at, Sound.SoundAt, Works.Steps}, proofs.{Raising.sound_taken, ServingHolds.Follows, Swept.some_grouped, WokenEntered.{all_acknowledged, enter_shown}}}
 use Rattle.exec_serving.proofs.Entered.{entered, led_to, ring_seen, without_putting_off, with_put_off}
 
 -- where the worker is after the enter, where the kernel was busy or not, and some completion is there or none

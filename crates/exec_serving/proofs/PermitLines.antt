@@ -1,12 +1,11 @@
 -- The first of a gate leaves it, whose request is over: who stands there then, and what is seen of that.
-use Rattle.std.{proofs.{Common.{◌≡◌, ◌≢◌, ℕ, zero, suc, ◌+◌, ◌<◌, ◌&&◌, ◌++◌, ◌^◌, arith, Bool, true, false, List, [], ◌∷◌, cond, count_by, drop, length, map, Some, None, option_to_list, refl, sym, ap, subst, ◌∙◌, slice_get, slice_set, if◌then◌else◌}, lemmas.{Bool.false≢true, List.{length-set}}}}
+use Rattle.std.proofs.{Common.{◌≡◌, ◌≢◌, ℕ, zero, suc, ◌+◌, ◌<◌, ◌&&◌, ◌++◌, ◌^◌, arith, Bool, true, false, List, [], ◌∷◌, cond, count_by, drop, length, map, Some, None, option_to_list, refl, sym, ap, subst, ◌∙◌, slice_get, slice_set, if◌then◌else◌}, lemmas.{Bool.false≢true, List.length-set}}
 use Rattle.exec_outcomes.specs.Accounts.{is_durable}
 use Rattle.exec_opens.specs.{Opens.{OpenState, passed}, declared.opens.WaiterKey.WaiterKey}
 use Rattle.exec_machine.specs.{declared.state.RequestPhase.RequestPhase, Tests.{is_gated, is_resolved}}
 use Rattle.exec_parts.{specs.{declared.parts.record.Record.Record, View.{account_seen, gate_seen, gives_up, has_given_up, line_of, number_of_key, open_seen}}, proofs.Facts.{by_number, false_from_ne_true, same_Some, set_elsewhere, set_there}}
-use Rattle.exec_invariants.{specs.{Gates.{AreLinedUp, HaveGates, IsLinedUp, at_gate, has_hint_at, is_coming, key_for, line_at}, Places.Drops}}
+use Rattle.exec_invariants.{specs.{Gates.{AreLinedUp, HaveGates, IsLinedUp, at_gate, has_hint_at, is_coming, key_for, line_at}, Places.Drops}, proofs.Lined.{tallied, tally}}
 use Rattle.exec_serving.proofs.PermitSeen.{number_named, shows}
-use Rattle.exec_invariants.proofs.Lined.{tallied, tally}
 
 -- LISTS
 

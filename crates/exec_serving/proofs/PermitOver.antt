@@ -1,7 +1,7 @@
 -- The first of a gate is granted its permit, and is over by that: a step.
 use Rattle.std.proofs.{Common.{◌≡◌, ℕ, suc, ◌<◌, ◌==◌, true, not, List, [], ◌∷◌, ◌++◌, filter, length, map, Option, Some, is_some, refl, sym, ap, subst, ◌∙◌, arith, slice_get, slice_set}, lemmas.Bool.{eq-eqb, false≢true}}
-use Rattle.exec_base.specs.{Slab.{value_at, written}}
-use Rattle.exec_outcomes.specs.{Accounts.{Account, is_durable, outcome_at_grant, outcome_told as told_of}, declared.outcome.{Kind.Kind, Outcome.{Outcome}}}
+use Rattle.exec_base.specs.Slab.{value_at, written}
+use Rattle.exec_outcomes.specs.{Accounts.{Account, is_durable, outcome_at_grant, outcome_told as told_of}, declared.outcome.{Kind.Kind, Outcome.Outcome}}
 use Rattle.exec_request.specs.{Requests.{asked_of, outcome_if_granted, output_of, record_after}, declared.output.RequestOutput.RequestOutput, States.{Ended, as_answer, as_outcome, told_by}}
 use Rattle.exec_waiters.{specs.{Events.{finished, told_by_finish, waker_in, with_permit}, States.{file_of, flying_count, tick_in, tick_of, waiter_at}, Told.{Tells, Told as ToldOf}, declared.waiter.{Entry.TheVariants.Pending, Waiter.Waiter}}, proofs.Changes.{entry_of, one_if}}
 use Rattle.exec_driver.specs.{Driving.{Driving, is_cancelled, is_queued, request_at}, Punctual.IsPunctual, Steps.{GrantsAs, granted as driver_granted, opens_after_end, told_by_end, unscheduled}, declared.driver.staging.Granted.Granted as Told}
@@ -11,9 +11,8 @@ use Rattle.exec_task.specs.declared.body.Said.{Said}
 use Rattle.exec_machine.specs.{declared.event.Event.{Event, TheVariants.Grant}, Requests.{account_of_open, granted, joined_if}, Same.{is_number, same_end}, Tests.{is_gated, is_of_file, is_resolved}, World.{open_of, request_of}}
 use Rattle.exec_moves.specs.{declared.place.{AfterPermit.AfterPermit, InService.InService, Place.Place, Service.Service}, State.Desk, Submit.after_grant, Told.told_of_end}
 use Rattle.exec_parts.{specs.{declared.parts.{mail.Reply.Reply, record.Record.Record, shared.Shared.Shared, worker.Worker.Worker}, Records.number_in, Serving.{changed_at, changed_in}, Spots.Spot, View.{common_of, desk_of, driver_of, gate_seen, visible, with_view}}, proofs.Facts.{by_name, same_Some}}
-use Rattle.exec_invariants.{specs.{Due.IsWheelAt, Gates.{AreLinedUp, HaveGates, IsKnown, PassesPermit, key_for}, Holding.nap_of, Places.{Drops, drops_at, passes_at}, Rooted.outcome_told, Submits.IsGatedIn, Whole.{IsWhole, Profile, with_worker}, Works.Steps}, proofs.{Accounted.open_of_file, Expiring.{unticked_start, unticked_tick}, Changing.{changes_one, flying_after}, DeskEnds.desk_ended, Ends.{flying_ended, numbers_without}, EndsServed.{ends_thing, one_slot}, Gated.durable_of_file, Late.ends_as, Lined.{SameLines, gates_opens, gates_seen_same, lined_opens, lines_same, map_changed, was_sent}, Marking.{mark_if, marked}, Mine.stands, Orders.alike_unticked, Ousting.keeps_ended, Over.{OneEnds, leaves_all}, Recorded.shown_changed, Resolving.{slab_after, unticked_at}, Seeing.{own_with, served_by, shows}, ServedEnds.ends_told, ServedWakes.holding_over, Serving.{Balances, SparesGates, at_large}, ServingHolds.{Follows, IsServed, KeepsBy, OthersKept, Serves, keeps_home, serves_to}, Slotted.{awaited_written, slots_written}, Staging.stages_again, SparedRecord.there_within, Turning.view_found}}
+use Rattle.exec_invariants.{specs.{Due.IsWheelAt, Gates.{AreLinedUp, HaveGates, IsKnown, PassesPermit, key_for}, Holding.nap_of, Places.{Drops, drops_at, passes_at}, Rooted.outcome_told, Submits.IsGatedIn, Whole.{IsWhole, Profile, with_worker}, Works.Steps}, proofs.{Accounted.open_of_file, Expiring.{unticked_start, unticked_tick}, Changing.{changes_one, flying_after}, DeskEnds.desk_ended, Ends.{flying_ended, numbers_without}, EndsServed.{ends_thing, one_slot}, Gated.durable_of_file, Late.ends_as, Lined.{SameLines, gates_opens, gates_seen_same, lined_opens, lines_same, map_changed, was_sent}, Marking.{mark_if, marked}, Mine.stands, Orders.alike_unticked, Ousting.keeps_ended, Over.{OneEnds, leaves_all}, Recorded.shown_changed, Resolving.{slab_after, unticked_at}, Seeing.{own_with, served_by, shows}, ServedEnds.ends_told, ServedWakes.holding_over, Serving.{Balances, SparesGates, at_large}, ServingHolds.{Follows, IsServed, KeepsBy, OthersKept, Serves, keeps_home, serves_to}, Slotted.{awaited_written, slots_written}, Staging.stages_again, SparedRecord.there_within, Turning.view_found, Raising.set_twice}}
 use Rattle.exec_serving.proofs.{Finished.tells_ending, Gone.{apart_by, as_told, known_opens, one_written, one_written_is}, PermitGates.{drops_others, drops_own, gates_passing}, PermitGrants.{Granted, gates_granted, keys_granted, lined_granted}, PermitQueued.{GrantAt, granted_at as at_grant, granted_of, keeps_queued, queues}, PermitSeen.{keys_gates, opens_ended}, PermitSteps.{HasGranted, answer_is, holder_is, moves_grant, request_is, spares_marked, things_granted}, ReapAccounts.{IsOperation, file_there, lines_counted, opens_counted, opens_uncounted}, ReapViewed.{same_outcome_self, told_place}}
-use Rattle.exec_invariants.proofs.Raising.{set_twice}
 
 -- WHAT ENDS AT A GRANT is told as it is
 

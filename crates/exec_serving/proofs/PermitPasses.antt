@@ -8,8 +8,7 @@ use Rattle.exec_task.specs.declared.body.Said.{Said}
 use Rattle.exec_machine.specs.{declared.event.Event.{Event, TheVariants.Serve}, Choice.Choice.Plain, Progress.Plan, Tests.is_at_large, World.{Common, no_request, request_of}}
 use Rattle.exec_moves.specs.{declared.place.{AfterPermit.AfterPermit, InService.InService, Place.Place, Service.Service}, Seen.serves_in, Serve.{after_passing, worker_of}, State.gate_of}
 use Rattle.exec_parts.specs.{declared.parts.{mail.Reply.Reply, record.Record.Record, shared.Shared.Shared, worker.{Moments.Moments, Worker.Worker}}, Records.number_in, Spots.Spot, View.{Views, common_of, driver_of, gate_seen, number_of_key, open_seen, own_of, things_with, visible, with_view}}
-use Rattle.exec_invariants.proofs.Showing.{map_kept, map_set}
-use Rattle.exec_invariants.{specs.{Drained.IsPool, Due.{IsDue, IsWheelAt, wheel_moment}, Flown.HasFlown, Gates.{HaveGates, IsKnown, has_hint_at, may_ask_hint}, Holding.{box_of, thing_of}, Places.{Drops, drops_at, passes_at}, Sound.{Aims, SoundAt, served_in}, Whole.{HasWhole, IsWhole, Profile, duties_of, with_worker}, Works.{Beside, Steps, Suits, Works}}, proofs.{GateJoins.{pool_drops, spares_opens}, Hearing.unheard, Lined.mapped, Recorded.request_seen, Turning.view_found}}
+use Rattle.exec_invariants.{proofs.{Showing.{map_kept, map_set}, GateJoins.{pool_drops, spares_opens}, Hearing.unheard, Lined.mapped, Recorded.request_seen, Turning.view_found}, specs.{Drained.IsPool, Due.{IsDue, IsWheelAt, wheel_moment}, Flown.HasFlown, Gates.{HaveGates, IsKnown, has_hint_at, may_ask_hint}, Holding.{box_of, thing_of}, Places.{Drops, drops_at, passes_at}, Sound.{Aims, SoundAt, served_in}, Whole.{HasWhole, IsWhole, Profile, duties_of, with_worker}, Works.{Beside, Steps, Suits, Works}}}
 use Rattle.exec_serving.proofs.{PermitGates.{drops_others, drops_own}, PermitLines.{Leaver, gate_behind, gate_is, gate_was, gates_left, hints_left, lined_left, next_at_gate, open_left, opens_left}, PermitSignals.{aims_back, moment_of_back, passes_none, serves_back}}
 
 -- WHO LEAVES

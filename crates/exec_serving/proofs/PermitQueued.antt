@@ -4,7 +4,7 @@ use Rattle.exec_base.specs.{Slab.{value_at, written}, declared.slab.Id.Id}
 use Rattle.exec_outcomes.specs.{Accounts.is_durable, declared.outcome.OpResult.OpResult}
 use Rattle.exec_request.specs.{Requests.{asked_of, deadline_of}, States.asks_cancel}
 use Rattle.exec_waiters.{specs.{Events.with_permit, Ids.user_data_of, States.{needs_permit, takes_tick, waiter_at}, declared.{waiter.{Entry.TheVariants.Pending, Waiter.Waiter}, waiter_id.WaiterId.WaiterId}}, proofs.Changes.entry_of}
-use Rattle.exec_driver.specs.{Driving.{Driving, is_gated as waits_gated, request_at}, Punctual.IsPunctual}
+use Rattle.exec_driver.{specs.{Driving.{Driving, is_gated as waits_gated, request_at}, Punctual.IsPunctual}, proofs.Serving.among_others}
 use Rattle.exec_lists.specs.Lists.{is_among, without}
 use Rattle.exec_opens.specs.{Opens.{OpenState, holder_at, holder_in}, declared.opens.WaiterKey.WaiterKey}
 use Rattle.exec_machine.specs.{declared.state.RequestPhase.RequestPhase, Tests.{is_gated, is_resolved, is_staged}}
@@ -12,7 +12,6 @@ use Rattle.exec_moves.specs.declared.place.{Place.Place, Service.Service}
 use Rattle.exec_parts.{specs.{declared.parts.{mail.Reply.Reply, record.Record.Record, shared.Shared.Shared, worker.Worker.Worker}, Records.number_in, Serving.changed_at, View.driver_of}, proofs.Facts.{and_parts, by_name, not-true, same_number, same_Some}}
 use Rattle.exec_invariants.{specs.{Carried.{IsCarried, IsUnderWay, may_move, moves_by, those_of, unlanded}, Due.{IsWheelAt, may_be_due, wheel_moment}, Flown.{AreLanded, HasFlown, IsPolled, operations}, Gates.{IsKnown, key_for, line_at}, Ordered.{IsOrdered, went_round}, Names.{IsAlike, IsSubmitted}, Sound.{SoundAt, served_in}, Submits.IsGatedIn}, proofs.{Changing.{OneGoesOn, all_go_one, apart_number, changes_one, keeps_one}, Conveying.carried_one, Flown.landed_on, Going.{GoesOn, owning_on}, Known.{known_written, low_there}, Marking.{known_then, mark_if, mark_kept, marked, plain_kept, was_marked}, Orders.{Eases, IsPartOf, TurnsAlike, alike_self, eased, eases_written, part_self}, ServingHolds.{Follows, KeepsBy}}}
 use Rattle.exec_serving.proofs.PermitGrants.{Granted}
-use Rattle.exec_driver.proofs.Serving.{among_others}
 
 abbrev key_made : ℕ → WaiterId → WaiterKey
 key_made worker name = record { worker = worker; id = name }

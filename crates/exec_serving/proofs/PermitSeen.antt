@@ -5,10 +5,8 @@ use Rattle.exec_outcomes.specs.{Accounts.{Account, is_durable}, declared.outcome
 use Rattle.exec_opens.specs.{Opens.OpenState, declared.opens.WaiterKey.WaiterKey}
 use Rattle.exec_machine.specs.{declared.state.Operation.Operation, Requests.{open_after_end, passed_on}, Tests.{is_of_file, is_resolved}, World.{Open, no_open}}
 use Rattle.exec_parts.{specs.{declared.parts.record.Record.Record, Serving.changed_at, View.{account_seen, gate_seen, gives_up, has_given_up, line_of, number_of_key, open_seen}}, proofs.Facts.{not_same, same_Some}}
-use Rattle.exec_invariants.proofs.Showing.{map_set}
-use Rattle.exec_invariants.{specs.Gates.{AreLinedUp, key_for, line_at}, proofs.{Accounted.with_its, Gated.durable_of_file, GateLines.key_number, Hinting.open_there, Keys.{name_in, names_changed, same_open, same_opens}, Marking.{mark_if, marked}}}
+use Rattle.exec_invariants.{proofs.{Showing.map_set, Accounted.with_its, Gated.durable_of_file, GateLines.key_number, Hinting.open_there, Keys.{name_in, names_changed, same_open, same_opens}, Marking.{mark_if, marked}, Raising.set_twice}, specs.Gates.{AreLinedUp, key_for, line_at}}
 use Rattle.exec_serving.proofs.ReapAccounts.{IsCounted, account_told}
-use Rattle.exec_invariants.proofs.Raising.{set_twice}
 
 -- LISTS
 

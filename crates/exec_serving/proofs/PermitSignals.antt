@@ -5,8 +5,7 @@ use Rattle.exec_task.specs.declared.body.Said.{Said}
 use Rattle.exec_machine.specs.{declared.{event.Event.{Event, TheVariants.{Serve, Rouse}}, state.Rest.Rest}, Choice.Choice.Plain, Progress.Plan, Tests.{is_at_large, is_awake}, World.{no_seat, seat_of}}
 use Rattle.exec_moves.specs.{declared.place.{AfterPermit.AfterPermit, InService.InService, Place.Place, Service.Service}, Claim.{is_ring, latched}, Move.move_at, Seen.serves_in, Serve.{after_latch, after_permit, rousing_in_service, signal}, State.word_of, Thing.set_word}
 use Rattle.exec_parts.specs.{declared.parts.{seat.Seat.Seat as Chair, shared.Shared.Shared, worker.{Moments.Moments, Worker.Worker}}, Phased.{IsPhased, TurnsChair, closes_at, closing_in, stage_of}, Pooled.{OfChair, chair_latched, chair_raised}, Spots.Spot, View.{Views, Visible, common_of, desk_of, driver_of, own_of, seat_seen, seats_seen, things_of, things_with, visible, with_view}, Things.{Goes, Makes, TurnsWord}}
-use Rattle.exec_invariants.proofs.Showing.{map_kept, own_word_seen, seats_kept, word_shows}
-use Rattle.exec_invariants.{specs.{Due.{IsWheelAt, may_be_due, wheel_moment}, Holding.box_of, Places.passes_at, Sound.{Aims, HasQueue, SoundAt, served_in}, Spares.SparesChair, Works.{Beside, Steps, Suits, Works}}, proofs.{Aside.{beside_calm, queue_of_chair, queues_set, seats_other}, Hearing.unheard, PoolKept.{gate_spared, gates_set}, Seats.{chair_set, seat_there as seen_there}, Rousing.{Keeps, seat_was, seated_now, stage_was, wake_shows}, Shown.makes, Thieves.seat_there, Turning.{Arrives, Shares, sound_on, view_found}}}
+use Rattle.exec_invariants.{proofs.{Showing.{map_kept, own_word_seen, seats_kept, word_shows}, Aside.{beside_calm, queue_of_chair, queues_set, seats_other}, Hearing.unheard, PoolKept.{gate_spared, gates_set}, Seats.{chair_set, seat_there as seen_there}, Rousing.{Keeps, seat_was, seated_now, stage_was, wake_shows}, Shown.makes, Thieves.seat_there, Turning.{Arrives, Shares, sound_on, view_found}}, specs.{Due.{IsWheelAt, may_be_due, wheel_moment}, Holding.box_of, Places.passes_at, Sound.{Aims, HasQueue, SoundAt, served_in}, Spares.SparesChair, Works.{Beside, Steps, Suits, Works}}}
 
 -- FROM one step of a service to another
 

@@ -1,12 +1,11 @@
 -- What is kept of an open once a request of it is over: its driver and the machine make the same of it.
-use Rattle.std.{proofs.{Common.{◌≡◌, ℕ, ◌<◌, Bool, true, false, List, length, Option, Some, None, if◌then◌else◌, refl, sym, ap, subst, ◌∙◌, slice_set}}}
-use Rattle.std.proofs.Common.{arith}
-use Rattle.exec_outcomes.specs.{Accounts.{Account, account_after, is_durable}, Outcomes.{Asked, Cursor, cursor_next, outcome_next}, declared.outcome.{Judged.Judged, Kind.Kind, Outcome.{Outcome}}}
-use Rattle.exec_request.specs.{Hints.{has_hint, without_hint}, Requests.{asked_of, cursor_of, record_after, target_of}, Kept.seen_by, States.{Ended, as_outcome, told_by}, declared.{request.Request.Request as Asking}}
+use Rattle.std.proofs.Common.{◌≡◌, ℕ, ◌<◌, Bool, true, false, List, length, Option, Some, None, if◌then◌else◌, refl, sym, ap, subst, ◌∙◌, slice_set, arith}
+use Rattle.exec_outcomes.specs.{Accounts.{Account, account_after, is_durable}, Outcomes.{Asked, Cursor, cursor_next, outcome_next}, declared.outcome.{Judged.Judged, Kind.Kind, Outcome.Outcome}}
+use Rattle.exec_request.specs.{Hints.{has_hint, without_hint}, Requests.{asked_of, cursor_of, record_after, target_of}, Kept.seen_by, States.{Ended, as_outcome, told_by}, declared.request.Request.Request as Asking}
 use Rattle.exec_waiters.specs.States.{file_of}
 use Rattle.exec_opens.specs.Opens.{OpenState, account_by, account_in, with_account}
 use Rattle.exec_machine.specs.{declared.state.Operation.Operation, Tests.is_of_file}
-use Rattle.exec_parts.{specs.declared.parts.record.Record.Record}
+use Rattle.exec_parts.specs.declared.parts.record.Record.{Record}
 use Rattle.exec_invariants.{specs.Gates.{AreLinedUp, has_hint_at}, proofs.{Accounted.{HasOpen, account_set, lines_account, open_of_file, with_its}, Lined.{SameLines, opens_same}}}
 
 -- A RESULT THAT ENDS a request, whose cancellation nobody asked for, doesn't pass on to its second part

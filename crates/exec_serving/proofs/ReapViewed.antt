@@ -1,15 +1,13 @@
 -- What the machine sees of an operation that was reaped, whose request is over by that.
-use Rattle.std.proofs.{Common.{◌≡◌, ℕ, ◌==◌, Bool, true, false, List, ◌∷◌, map, Option, Some, refl, sym, ap, ◌∙◌, slice_get, slice_set, drop, if◌then◌else◌}, lemmas.Bool.eq-eqb}
-use Rattle.std.proofs.Common.{arith}
+use Rattle.std.proofs.{Common.{◌≡◌, ℕ, ◌==◌, Bool, true, false, List, ◌∷◌, map, Option, Some, refl, sym, ap, ◌∙◌, slice_get, slice_set, drop, if◌then◌else◌, arith}, lemmas.Bool.eq-eqb}
 use Rattle.exec_outcomes.specs.{Accounts.outcome_told, Outcomes.refuses_hint, declared.outcome.{OpResult.OpResult, Outcome.{Outcome, TheVariants.{Failure, Success}}}}
 use Rattle.exec_ring.specs.{Completions.result_in, declared.completion.Completion.Completion}
 use Rattle.exec_task.specs.declared.body.Said.{Said}
 use Rattle.exec_machine.specs.{declared.{event.Event.TheVariants.Reap, state.Request.Request}, Progress.Plan, Requests.{account_of_open, after_reap as common_reaped, judged_of, may_reap, opens_after_end, outcome_given, outcome_shown, reaped}, Same.{is_number, same_end, same_outcome}, Tests.{is_at_large, is_landed_with, set_open, AllTrue}, World.{Common, Own, Seat, open_of, seat_of}}
 use Rattle.exec_moves.specs.{Told.{told_if_ended, told_of_end}, Serve.{Ring, after_reap, back_from_reap, others_after_reap, reap, reaped as reaped_ring, result_in as result_of}, State.{Desk, Moved, WakePoll, does}, Thing.ring_of, declared.place.{Place.Place, Reaping.Reaping, Service.Service, InService.InService}}
 use Rattle.exec_parts.specs.{declared.parts.{record.Record.Record, shared.Shared.Shared, worker.Worker.Worker}, Serving.changed_at, Spots.Spot, View.{Views, visible, with_view, driver_of, common_of, open_seen, seat_seen, seats_seen, things_with}}
-use Rattle.exec_invariants.{specs.{Flown.{HasLanded, operations}, Sound.SoundAt, Works.Suits}, proofs.{Accounted.opens_refused, Mine.live_mine, Recorded.shown_changed, Results.same_error_self}}
+use Rattle.exec_invariants.{specs.{Flown.{HasLanded, operations}, Sound.SoundAt, Works.Suits}, proofs.{Accounted.opens_refused, Mine.live_mine, Recorded.shown_changed, Results.same_error_self, MailApplies.seats_viewed}}
 use Rattle.exec_serving.proofs.{Entered.{ring_seen, ring_there}, Finished.over_step, PermitSeen.opens_after, Viewed.{landed_seen, request_is, same_result_self, seat_is, seen_all, seen_later, seen_number, visible_landed}}
-use Rattle.exec_invariants.proofs.MailApplies.{seats_viewed}
 
 pub same_outcome_self : (x : Outcome) → same_outcome x x ≡ true
 same_outcome_self Success = refl

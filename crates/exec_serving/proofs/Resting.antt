@@ -2,10 +2,9 @@
 use Rattle.std.proofs.{Common.{◌≡◌, ℕ, zero, suc, ◌*◌, ◌<◌, ◌≤◌, ◌^◌, false, List, [], ◌∷◌, ◌+◌, length, map, get_or, Option, None, Some, refl, sym, ap, subst, ◌∙◌, arith, slice_get, slice_set, option_map, IfSome}, lemmas.{List.{length-map, length-set}, Option.{slice_get-map, slice_get-get_or, slice_get_within}}}
 use Rattle.exec_base.specs.declared.limits.TheConstants.{LAST_MOMENT}
 use Rattle.exec_machine.specs.declared.{config.Configuration.Configuration, state.Rest.Rest}
-use Rattle.exec_moves.specs.declared.{place.{Place.Place}}
+use Rattle.exec_moves.specs.declared.place.Place.{Place}
 use Rattle.exec_parts.{specs.{declared.parts.{seat.Seat.Seat as Chair, shared.Shared.Shared, worker.Worker.Worker}, Phased.{IsPhased, TurnsChair, stage_of, closes_at, closing_in}, Records.{rest_at, reached, roused}}, proofs.Facts.same_Some}
-use Rattle.exec_invariants.proofs.Showing.{map_kept}
-use Rattle.exec_invariants.{specs.{Holding.box_of, Places.is_armed_at, Sound.{Aims, AreHome, HasQueue, IsInTime, IsSeated, Sound, SoundAt}, Whole.{IsWhole, Profile}}, proofs.{Dedicated.as_long, Aside.{queue_of_chair, queues_set, whole_same}, PoolKept.{KeepsGates}, SparedRecord.there_within}}
+use Rattle.exec_invariants.{proofs.{Showing.map_kept, Dedicated.as_long, Aside.{queue_of_chair, queues_set, whole_same}, PoolKept.KeepsGates, SparedRecord.there_within}, specs.{Holding.box_of, Places.is_armed_at, Sound.{Aims, AreHome, HasQueue, IsInTime, IsSeated, Sound, SoundAt}, Whole.{IsWhole, Profile}}}
 
 abbrev pub rested : Rest → Chair → Chair
 rested x chair = record chair { rest = x }

@@ -5,8 +5,7 @@ use Rattle.exec_task.specs.declared.body.Said.{Said}
 use Rattle.exec_machine.specs.{declared.event.Event.{Event, TheVariants.Serve}, Choice.Choice.Plain, Progress.Plan}
 use Rattle.exec_moves.specs.{declared.place.{InService.InService, Place.Place, Reaping.Reaping, Service.Service}, Move.move_at, Serve.{sample, unlatched}, State.word_of, Thing.set_word}
 use Rattle.exec_parts.{specs.{declared.parts.{seat.Seat.Seat as Chair, shared.Shared.Shared, worker.{Moments.Moments, Worker.Worker}}, Phased.{IsPhased, closes_at, stage_of}, Spots.Spot, View.{Views, visible, with_view, driver_of, own_of, desk_of, common_of, things_of, things_with}, Things.{Makes, TurnsWord}}, proofs.Facts.set_there}
-use Rattle.exec_invariants.proofs.Showing.{map_kept, own_word_seen, seats_kept, word_shows}
-use Rattle.exec_invariants.{specs.{Due.IsDue, Flown.HasFlown, Holding.box_of, Places.drops_at, Sound.{AreHome, HasQueue, IsInTime, IsSeated, SoundAt}, Works.{Beside, Suits, Steps, Works}}, proofs.{Serving.at_large, Aside.{SameProfile, beside_calm, queue_of_chair, queues_set, seats_own}, Hearing.unheard, Orders.unordered, PoolKept.gates_set, Seeing.makes, Turning.view_found}}
+use Rattle.exec_invariants.{proofs.{Showing.{map_kept, own_word_seen, seats_kept, word_shows}, Serving.at_large, Aside.{SameProfile, beside_calm, queue_of_chair, queues_set, seats_own}, Hearing.unheard, Orders.unordered, PoolKept.gates_set, Seeing.makes, Turning.view_found}, specs.{Due.IsDue, Flown.HasFlown, Holding.box_of, Places.drops_at, Sound.{AreHome, HasQueue, IsInTime, IsSeated, SoundAt}, Works.{Beside, Suits, Steps, Works}}}
 
 module _ {B L : Type 0} (left : B → L) (spot : L → Option Said → Spot) where
   pub sampled : (v : Service) (w w' : Worker) (s s' : Shared B) (e : Event) → SoundAt (Place.Service InService.Sample v) w s

@@ -6,8 +6,7 @@ use Rattle.exec_task.specs.declared.body.Said.{Said}
 use Rattle.exec_machine.specs.Progress.{Plan}
 use Rattle.exec_moves.specs.{Plays.last_told, State.wake_poll_of, Thing.set_wake_poll}
 use Rattle.exec_parts.{specs.{declared.parts.{mail.Reply.Reply, seat.Seat.Seat as Chair, shared.Shared.Shared, worker.Worker.Worker}, Spots.Spot, View.{Views, visible, with_view, driver_of, own_of, desk_of, common_of, seat_seen, things_with}}, proofs.Facts.set_there}
-use Rattle.exec_invariants.specs.Raises.{TakesRaises}
-use Rattle.exec_invariants.{specs.{Sound.{SoundAt, Sound}, Works.{Beside, Suits}}, proofs.{Aside.{SameProfile, beside_calm, seats_same}, PoolKept.gates_same, Raising.{beside_first, common_taken, desk_taken, own_taken, poll_shows, poll_shown, sound_taken, things_taken, view_twice, views_kept}, Ringed.sound_ring, Shown.{desk_with, own_with, visible_with}}}
+use Rattle.exec_invariants.{specs.{Raises.TakesRaises, Sound.{SoundAt, Sound}, Works.{Beside, Suits}}, proofs.{Aside.{SameProfile, beside_calm, seats_same}, PoolKept.gates_same, Raising.{beside_first, common_taken, desk_taken, own_taken, poll_shows, poll_shown, sound_taken, things_taken, view_twice, views_kept}, Ringed.sound_ring, Shown.{desk_with, own_with, visible_with}}}
 
 module _ {B : Type 0} where
   pub set_sound : (w w' : Worker) (s : Shared B) (busy last : Bool) → Sound w s → driver_of w' ≡ record (driver_of w) { ring = record (driver_of w).ring { busy = busy; last = last } }

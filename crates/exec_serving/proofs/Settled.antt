@@ -1,6 +1,5 @@
 -- An operation that has landed is judged: a step.
-use Rattle.std.{proofs.Common.{◌≡◌, ℕ, Bool, true, false, not, List, [], ◌∷◌, ◌++◌, map, Option, Some, None, refl, sym, ap, ◌∙◌, is_some}, specs.VecDeque.deque_capacity}
-use Rattle.std.proofs.Common.{arith}
+use Rattle.std.{proofs.Common.{◌≡◌, ℕ, Bool, true, false, not, List, [], ◌∷◌, ◌++◌, map, Option, Some, None, refl, sym, ap, ◌∙◌, is_some, arith}, specs.VecDeque.deque_capacity}
 use Rattle.exec_request.specs.{Requests.{asked_of, gate_of, record_after, target_of}, States.{Ended, as_answer, as_outcome, told_by}, declared.request.Request.Request as Asking}
 use Rattle.exec_ring.specs.{Completions.result_in, Kernels.is_quiet}
 use Rattle.exec_opens.specs.Opens.{OpenState, account_in, with_account}
@@ -10,8 +9,7 @@ use Rattle.exec_task.specs.declared.body.Said.{Said}
 use Rattle.exec_machine.specs.{declared.{event.Event.{Event, TheVariants.Reap}, state.Request.Request}, Requests.{joined_if, reaped}}
 use Rattle.exec_moves.specs.{Serve.{after_permit, back_from_reap}, declared.place.{AfterPermit.AfterPermit, Place.Place, Reaping.Reaping, Service.Service, InService.InService}}
 use Rattle.exec_parts.specs.{declared.parts.{names.Names.Names, shared.Shared.Shared, worker.Worker.Worker}, Records.number_in, Serving.changed_at, Spots.Spot, View.{driver_of, number_told}}
-use Rattle.exec_invariants.specs.Submitting.{after_giving_up}
-use Rattle.exec_invariants.{specs.{Flown.HasLanded, Sound.SoundAt, Works.Steps}}
+use Rattle.exec_invariants.specs.{Submitting.after_giving_up, Flown.HasLanded, Sound.SoundAt, Works.Steps}
 use Rattle.exec_serving.proofs.{Finished.{goes_over, over_outcome, over_place, over_step}, Gone.{operation_over, reaped_over}, ReapAccounts.told_unhinted, Reaped.{TellsOf, tells_of}, Requeued.goes_back, Returned.reaped_back, Turned.{back_has, back_turned, ended_turned, opens_turned, over_has, over_request, over_tells, permit_turned, tells_turned, turned_account, turned_back, turned_over}}
 
 -- whose permit it gives up

@@ -5,10 +5,8 @@ use Rattle.exec_task.specs.declared.body.Said.{Said}
 use Rattle.exec_machine.specs.{declared.event.Event.{Event, TheVariants.{Turn, Sleep}}, Deadlines.next_due}
 use Rattle.exec_moves.specs.{declared.{idling.{Stay.Stay, AfterWait.AfterWait, InRingWait.InRingWait}, place.Place.Place}, Load.has_come, Serve.Ring, State.{Desk, Things, does, no_wake_poll}, Thing.{set_wake_poll, with_ring}, Wait.{has_completion, sleep, sleep_on_ring}}
 use Rattle.exec_parts.specs.{declared.parts.{shared.Shared.Shared, worker.Worker.Worker}, Spots.Spot, View.{Views, visible, driver_of, desk_of, common_of, number_told, things_with}}
-use Rattle.exec_invariants.specs.Raises.{TakesRaises}
-use Rattle.exec_serving.specs.Waits.{Sleeps}
-use Rattle.exec_invariants.{specs.{Kinds.kind_of, Sound.SoundAt, Works.Steps}, proofs.{Raising.{none_waits, poll_shown, raised_first, sound_taken}, Swept.some_grouped}}
-use Rattle.exec_serving.proofs.{Entered.{ring_seen, ring_there}, Slumber.{awake, sleeping, slept_by}}
+use Rattle.exec_invariants.{specs.{Raises.TakesRaises, Kinds.kind_of, Sound.SoundAt, Works.Steps}, proofs.{Raising.{none_waits, poll_shown, raised_first, sound_taken}, Swept.some_grouped}}
+use Rattle.exec_serving.{specs.Waits.Sleeps, proofs.{Entered.{ring_seen, ring_there}, Slumber.{awake, sleeping, slept_by}}}
 
 -- a completion is there just where the ring isn't quiet
 some_seen : (w : Worker) → has_completion (desk_of w) (ring_seen w) ≡ not (is_quiet (driver_of w).ring)

@@ -6,8 +6,7 @@ use Rattle.exec_machine.specs.{declared.{event.Event.{Event, TheVariants.{Turn, 
 use Rattle.exec_moves.specs.{declared.{idling.InWordWait.InWordWait, place.Place.Place}, Load.has_come, Move.move_at, Seen.{next_at, polls_at, serves_at}, State.{Desk, Moved, Things, does, word_of}, Thing.with_word, Wait.noting_sleep}
 use Rattle.exec_parts.{specs.{declared.parts.{seat.Seat.Seat as Chair, shared.Shared.Shared, worker.Worker.Worker}, Phased.{IsPhased, closes_at, closing_in, stage_of}, Spots.Spot, Tests.{IsNextIn, IsNextMoment, slept_after}, View.{Views, common_of, desk_of, inbox_at, letters_in, own_of, owed_at, polls_seen, queue_at, seats_seen, things_of, things_with, visible, with_view, word_at}, Things.HasChair}, proofs.Facts.set_there}
 use Rattle.exec_serving.specs.Waits.{Sleeps}
-use Rattle.exec_invariants.proofs.Showing.{map_kept}
-use Rattle.exec_invariants.{specs.{Holding.box_of, Kinds.{kind_of, lowered}, Places.{is_armed_at, is_pooled_at}, Sound.{Aims, HasBatch, HasQueue, IsSeated, SoundAt, has_wakes_at}, Works.{Steps, Suits}}, proofs.{Dedicated.as_long, Aside.{beside_calm, profile_alike, queue_of_chair, queues_set, seats_own, seats_same}, Hearing.unheard, NextDue.moment_seen, PoolKept.{gates_same, gates_set}, Seats.{chair_set, own_seat}, Shutting.seats_show, Turning.{Fits, GoesOn, Keeps, Shares, arrives, of_kind, sound_on, turn_alike, turned, view_found, word_back_again}}}
+use Rattle.exec_invariants.{proofs.{Showing.map_kept, Dedicated.as_long, Aside.{beside_calm, profile_alike, queue_of_chair, queues_set, seats_own, seats_same}, Hearing.unheard, NextDue.moment_seen, PoolKept.{gates_same, gates_set}, Seats.{chair_set, own_seat}, Shutting.seats_show, Turning.{Fits, GoesOn, Keeps, Shares, arrives, of_kind, sound_on, turn_alike, turned, view_found, word_back_again}}, specs.{Holding.box_of, Kinds.{kind_of, lowered}, Places.{is_armed_at, is_pooled_at}, Sound.{Aims, HasBatch, HasQueue, IsSeated, SoundAt, has_wakes_at}, Works.{Steps, Suits}}}
 
 same_itself : (o : Option ℕ) → same_number o o ≡ true
 same_itself None = refl

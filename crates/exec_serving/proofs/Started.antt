@@ -12,8 +12,7 @@ use Rattle.exec_task.specs.declared.body.Said.{Said}
 use Rattle.exec_machine.specs.{declared.{event.Event.{Event, TheVariants.Stage}, state.RequestPhase.RequestPhase}, Ranges.ring_size, Requests.{is_enrolled, staged}, Same.is_number, Tests.{is_gated, is_of_file, is_queued as is_phase_queued, is_resolved, is_staged}, World.{Common, request_of}}
 use Rattle.exec_moves.specs.{Move.move_submit, Submit.{staging_due, one_more, submits, Due.Stages}, declared.place.{Service.Service, Place.Place, InService.InService}}
 use Rattle.exec_parts.{specs.{declared.parts.{mail.Reply.Reply, names.Names.Names, record.Record.Record, shared.Shared.Shared, worker.Worker.Worker}, Records.{number_in, outcome_in}, Serving.{changed_at, is_cancel, is_one_of}, Spots.Spot, View.{visible, with_view, own_of, desk_of, driver_of, common_of, seat_seen, things_with, numbers_of}}, proofs.Facts.{by_name, or_left, not_same, same_number, second_true}}
-use Rattle.exec_invariants.specs.Submitting.{StagesRequest, must_flush, takes_hint}
-use Rattle.exec_invariants.{specs.{Carried.IsCarried, Flown.{HasFlown, ends_in, is_poll, operations}, Gates.{IsKnown, at_gate, has_hint_at}, Holding.{nap_of, thing_of}, Places.{one_if, passes_at}, Names.IsSubmitted, Sound.served_in, Submits.IsIdle, Works.Steps, Ordered.{IsOrdered, went_round}}, proofs.{Going.owning_on, Hinting.{WishAlike, asks_after, hint_alike, hint_of_open, hint_seen, operates, stretch_kept, takes_none, unpolled}, Keys.name_in, Known.{KeepsAsk, known_written}, Lined.{map_changed, opens_same}, Keeping.polls_same, Marking.{known_then, plain_kept, mark_if, marked, was_marked, marked_length}, Serving.{at_large, balances_still, SparesRecords, spares_one}, ServingHolds.{serves_to, IsServed, OthersKept, Serves, Keeps, KeepsBy, keeps_all}, Recorded.request_seen, Slotted.{awaited_written, slots_written}, Changing.{OneGoesOn, changes_one, flying_after, keeps_one, apart_number, all_go_one}, Conveying.carried_staged, Flown.landed_on, Seeing.{makes, shows, served, common_changed, common_same, ring_again, things_kept}, Staging.{flush_seen, idle_at, split_first, staging_next, stages_again, suits_at}, Starting.{starts_first, starts, starts_on, starts_alike, starts_if_worker, starts_if_cancel, starts_plain, came_on, known_and, tagged_by, cancels_by}, Orders.{alike_self, eased, eases_written, part_self}}}
+use Rattle.exec_invariants.{specs.{Submitting.{StagesRequest, must_flush, takes_hint}, Carried.IsCarried, Flown.{HasFlown, ends_in, is_poll, operations}, Gates.{IsKnown, at_gate, has_hint_at}, Holding.{nap_of, thing_of}, Places.{one_if, passes_at}, Names.IsSubmitted, Sound.served_in, Submits.IsIdle, Works.Steps, Ordered.{IsOrdered, went_round}}, proofs.{Going.owning_on, Hinting.{WishAlike, asks_after, hint_alike, hint_of_open, hint_seen, operates, stretch_kept, takes_none, unpolled}, Keys.name_in, Known.{KeepsAsk, known_written}, Lined.{map_changed, opens_same}, Keeping.polls_same, Marking.{known_then, plain_kept, mark_if, marked, was_marked, marked_length}, Serving.{at_large, balances_still, SparesRecords, spares_one}, ServingHolds.{serves_to, IsServed, OthersKept, Serves, Keeps, KeepsBy, keeps_all}, Recorded.request_seen, Slotted.{awaited_written, slots_written}, Changing.{OneGoesOn, changes_one, flying_after, keeps_one, apart_number, all_go_one}, Conveying.carried_staged, Flown.landed_on, Seeing.{makes, shows, served, common_changed, common_same, ring_again, things_kept}, Staging.{flush_seen, idle_at, split_first, staging_next, stages_again, suits_at}, Starting.{starts_first, starts, starts_on, starts_alike, starts_if_worker, starts_if_cancel, starts_plain, came_on, known_and, tagged_by, cancels_by}, Orders.{alike_self, eased, eases_written, part_self}}}
 use Rattle.exec_serving.proofs.Whole.{whole_kept}
 
 -- among the numbers that are staged it is the last

@@ -1,8 +1,7 @@
 -- A sleeper that is told at the end of a service is the one that the machine tells.
-use Rattle.std.{proofs.{Common.{◌≡◌, ◌≢◌, ◌⊎◌, ⊎_elim, ℕ, ◌+◌, ◌^◌, ◌<◌, ◌≤◌, Bool, true, false, not, List, length, Option, Some, None, IsSome, is_some, Ok, refl, sym, ap, subst, ◌∙◌, arith, slice_get, slice_set, nat_le, nat_lt, if◌then◌else◌}, lemmas.{Bool.false≢true, List.{map-set, length-set}}}}
+use Rattle.std.proofs.{Common.{◌≡◌, ◌≢◌, ◌⊎◌, ⊎_elim, ℕ, ◌+◌, ◌^◌, ◌<◌, ◌≤◌, Bool, true, false, not, List, length, Option, Some, None, IsSome, is_some, Ok, refl, sym, ap, subst, ◌∙◌, arith, slice_get, slice_set, nat_le, nat_lt, if◌then◌else◌}, lemmas.{Bool.false≢true, List.{map-set, length-set}}}
 use Rattle.exec_base.{specs.{Slab.{IsPast, Slab, value_at, live_count, removed, freed, is_live}, declared.{slab.{Slot.TheVariants.{Vacant, Retired}, Id.Id}, task_no.TaskNo.TaskNo}}, proofs.Slots.{IsLiveAt-from_value, count-set, live_within}}
-use Rattle.exec_time.specs.{declared.{timers.Sleeper.Sleeper as Sleeping}, Sleepers.{Ends, IsFirst}}
-use Rattle.exec_time.specs.declared.timers.Observer.TheVariants as sleep
+use Rattle.exec_time.specs.{declared.timers.{Sleeper.Sleeper as Sleeping, Observer.Observer as sleep}, Sleepers.{Ends, IsFirst}}
 use Rattle.exec_task.specs.declared.body.Said.{Said}
 use Rattle.exec_machine.specs.{declared.{event.Event.{Event, TheVariants.Fire}, state.Sleeper.Sleeper}, Deadlines.is_none_earlier, Tests.{is_asleep, is_open}, World.{seat_of, sleeper_of}}
 use Rattle.exec_moves.specs.{Serve.{first_to_fire, is_to_fire}, Slots.first_in, Told.told_of_fire, declared.place.{AfterService.AfterService, Service.Service, Place.Place, InService.InService}}

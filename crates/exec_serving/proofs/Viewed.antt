@@ -1,15 +1,13 @@
 -- What the machine sees of an operation that was reaped, and its move where the request goes on.
-use Rattle.std.proofs.{Common.{◌≡◌, ℕ, ◌&&◌, Bool, true, false, List, ◌∷◌, map, Option, None, refl, sym, ap, ◌∙◌, slice_set, drop, if◌then◌else◌}, lemmas.Bool.eq-eqb}
-use Rattle.std.proofs.Common.{arith}
+use Rattle.std.proofs.{Common.{◌≡◌, ℕ, ◌&&◌, Bool, true, false, List, ◌∷◌, map, Option, None, refl, sym, ap, ◌∙◌, slice_set, drop, if◌then◌else◌, arith}, lemmas.Bool.eq-eqb}
 use Rattle.exec_outcomes.specs.{Accounts.is_durable, Outcomes.refuses_hint, declared.outcome.OpResult.{OpResult, TheVariants.{Count, Errno}}}
 use Rattle.exec_ring.specs.{Completions.result_in, declared.completion.Completion.Completion}
 use Rattle.exec_task.specs.declared.body.Said.{Said}
-use Rattle.exec_machine.specs.{declared.{event.Event.TheVariants.Reap, state.Request.Request}, Progress.Plan, Requests.{account_of_open, after_reap as common_reaped, common_after_refusal, judged_of, may_reap, opens_after_end, outcome_given, outcome_shown, reaped}, Same.{same_result}, Tests.{is_at_large, is_resolved, set_open, AllTrue}, World.{Common, Open, Own, Seat, open_of, request_of, seat_of}}
+use Rattle.exec_machine.specs.{declared.{event.Event.TheVariants.Reap, state.Request.Request}, Progress.Plan, Requests.{account_of_open, after_reap as common_reaped, common_after_refusal, judged_of, may_reap, opens_after_end, outcome_given, outcome_shown, reaped}, Same.same_result, Tests.{is_at_large, is_resolved, set_open, AllTrue}, World.{Common, Open, Own, Seat, open_of, request_of, seat_of}}
 use Rattle.exec_moves.specs.{Told.told_if_ended, Serve.{Ring, after_permit, after_reap, back_from_reap, others_after_reap, reap, reaped as reaped_ring, result_in as result_of}, State.{Desk, Moved, WakePoll, does}, Thing.ring_of, declared.place.{Place.Place, Reaping.Reaping, Service.Service, InService.InService}}
 use Rattle.exec_parts.specs.{declared.parts.{record.Record.Record, shared.Shared.Shared, worker.Worker.Worker}, Records.number_in, Serving.changed_at, Spots.Spot, View.{Views, visible, with_view, driver_of, common_of, number_told, open_seen, seat_seen, seats_seen, things_with}}
-use Rattle.exec_invariants.{specs.{Flown.{HasLanded, operations}, Sound.SoundAt, Works.Suits}, proofs.{Mine.live_mine, Seats.own_seat, Recorded.request_seen, Accounted.{OpensJudged, opens_refused}, Keys.{name_in, names_changed, same_opens}, Seeing.common_changed}}
+use Rattle.exec_invariants.{specs.{Flown.{HasLanded, operations}, Sound.SoundAt, Works.Suits}, proofs.{Mine.live_mine, Seats.own_seat, Recorded.request_seen, Accounted.{OpensJudged, opens_refused}, Keys.{name_in, names_changed, same_opens}, Seeing.common_changed, MailApplies.seats_viewed}}
 use Rattle.exec_serving.proofs.{Entered.{ring_seen, ring_there}, Requeued.number_landed}
-use Rattle.exec_invariants.proofs.MailApplies.{seats_viewed}
 
 pub same_result_self : (x : OpResult) → same_result x x ≡ true
 same_result_self (Count n) = eq-eqb n n refl

@@ -6,8 +6,7 @@ use Rattle.exec_task.specs.declared.body.Said.{Said}
 use Rattle.exec_machine.specs.{declared.{event.Event.{Event, TheVariants.Turn}, state.Next.Next}, Choice.Choice.Plain, Progress.Plan}
 use Rattle.exec_moves.specs.{declared.{idling.{AfterWait.AfterWait, InRingWait.InRingWait, InWordWait.InWordWait, Stay.Stay}, place.{AfterService.AfterService, Place.Place}}, Callback.serve, Load.has_mail, Move.move_at, Seen.{next_at, polls_at, serves_at}, State.{Moved, turns, word_of}, Thing.set_word, Wait.{after_wait, arm_ring, disarmed, goes_back, spin_on_batch, spin_on_latch, hit, missed, arm_word, after_sleep, withdraws}}
 use Rattle.exec_parts.{specs.{declared.parts.{seat.Seat.Seat as Chair, shared.Shared.Shared, worker.Worker.Worker}, Phased.{IsPhased, closes_at, closing_in, stage_of}, Roles.is_pool, Spots.Spot, Tests.{after_wait_of, after_waiting_of, place_withdrawn}, View.{Views, common_of, desk_of, own_of, seats_seen, things_of, things_with}, Things.{Goes, Makes, TurnsWord}}, proofs.Facts.set_there}
-use Rattle.exec_invariants.proofs.Showing.{map_kept, own_word_seen, seats_kept, word_shows}
-use Rattle.exec_invariants.{specs.{Holding.box_of, Kinds.lowered, Places.{drops_at, has_count_at, is_armed_at, is_armed_on_ring, is_armed_on_word, is_pooled_at, is_published_at, searches_at, step_of_poll}, Sound.{Aims, GoesBack, HasBatch, HasQueue, IsSearching, IsSeated, SoundAt, has_wakes_at}, Works.{Steps, Suits}}, proofs.{Dedicated.{as_long, past_pool}, DedicatedSeen.pool_seen, Aside.{queue_of_chair, queues_set, seats_own, told_on, went}, Idled.{calm_of, guest_again, guest_calm, step_again, stops_again, stops_calm}, PoolKept.gates_set, Turning.{Arrives, GoesOn, IsTurn, Keeps, Lands, OfKind, Shares, by_place, by_spinner, pool_low, turned, word_back_again}}}
+use Rattle.exec_invariants.{proofs.{Showing.{map_kept, own_word_seen, seats_kept, word_shows}, Dedicated.{as_long, past_pool}, DedicatedSeen.pool_seen, Aside.{queue_of_chair, queues_set, seats_own, told_on, went}, Idled.{calm_of, guest_again, guest_calm, step_again, stops_again, stops_calm}, PoolKept.gates_set, Turning.{Arrives, GoesOn, IsTurn, Keeps, Lands, OfKind, Shares, by_place, by_spinner, pool_low, turned, word_back_again}}, specs.{Holding.box_of, Kinds.lowered, Places.{drops_at, has_count_at, is_armed_at, is_armed_on_ring, is_armed_on_word, is_pooled_at, is_published_at, searches_at, step_of_poll}, Sound.{Aims, GoesBack, HasBatch, HasQueue, IsSearching, IsSeated, SoundAt, has_wakes_at}, Works.{Steps, Suits}}}
 use Rattle.exec_serving.proofs.Unposted.{SameButShown, beside_unposted}
 
 -- the chair with another wake word

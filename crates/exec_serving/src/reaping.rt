@@ -6,9 +6,7 @@
 //! is signalled, the own one too.
 
 ghost use Rattle.exec_invariants.specs.{Sound.SoundAt, Works.Steps, Submitting.after_giving_up};
-ghost use Rattle.std.specs.Prelude.{◌+◌, ◌<◌, ◌≡◌, ◌^◌, length, is_some, None, if◌then◌else◌};
-ghost use Rattle.std.specs.Option.{option_map};
-ghost use Rattle.std.specs.VecDeque.{deque_capacity};
+ghost use Rattle.std.specs.{Prelude.{◌+◌, ◌<◌, ◌≡◌, ◌^◌, length, is_some, None, if◌then◌else◌}, Option.option_map, VecDeque.deque_capacity};
 ghost use Rattle.exec_machine.specs.{Requests.{joined_if, reaped}, Tests.is_awake};
 ghost use Rattle.exec_moves.specs.{Claim.latched, Serve.{after_passing, after_permit as place_after_permit, signal}, State.word_of};
 ghost use Rattle.exec_opens.specs.Opens.{next_at, passed, with_open};

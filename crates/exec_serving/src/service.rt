@@ -6,8 +6,7 @@
 //! completions again, and the sleepers that are due by the moment that was sampled.
 
 ghost use Rattle.exec_invariants.specs.{Sound.SoundAt, Whole.HasWhole, Works.Steps, Raises.Enters};
-ghost use Rattle.std.specs.Prelude.{◌<◌, ◌≡◌, [], length, slice_get, slice_set, true, Some};
-ghost use Rattle.std.specs.Vec.{vec_capacity};
+ghost use Rattle.std.specs.{Prelude.{◌<◌, ◌≡◌, [], length, slice_get, slice_set, true, Some}, Vec.vec_capacity};
 ghost use Rattle.exec_moves.specs.{Serve.{sample, unlatched, after_service}, State.word_of};
 ghost use Rattle.exec_driver.specs.{Punctual.IsPunctual, Steps.advanced_to};
 ghost use Rattle.exec_parts.specs.{Records.number_in, Serving.{AreKnown, flown_in, with_staging_ended}, declared.parts.sleeping.SleeperRecord.SleeperRecord as Sleeper, View.{driver_of, desk_of, things_of}, Things.{Makes, TurnsWord}};

@@ -8,9 +8,7 @@
 
 ghost use Rattle.exec_invariants.specs.{Submits.{IsDueIn, IsGatedIn, IsIdle, IsNewIn}, Sound.SoundAt, Works.Steps, Raises.Enters, Submitting.{AreNamed, EndsStaging, StagesCancel, StagesRequest, must_flush, after_flush, takes_hint}};
 ghost use Rattle.exec_parts.specs.{declared.parts.worker.Worker.Worker, Serving.{AreKnown, IsOnWheel, first_tick, outcome_of_error, with_staging_ended}, View.{driver_of, desk_of}};
-ghost use Rattle.std.specs.Prelude.{◌+◌, ◌<◌, ◌≡◌, ◌^◌, true, false, length, is_some, unwrap_or, Some, None};
-ghost use Rattle.std.specs.Vec.{vec_capacity};
-ghost use Rattle.std.specs.VecDeque.{deque_capacity};
+ghost use Rattle.std.specs.{Prelude.{◌+◌, ◌<◌, ◌≡◌, ◌^◌, true, false, length, is_some, unwrap_or, Some, None}, Vec.vec_capacity, VecDeque.deque_capacity};
 ghost use Rattle.exec_machine.specs.{Deadlines.{outcome_at_expiry, expired, enrolled}, Requests.{joined_if, granted}};
 ghost use Rattle.exec_moves.specs.Submit.{after_grant};
 ghost use Rattle.exec_driver.specs.{Driving.{is_full, may_stage_one}, Punctual.IsPunctual};

@@ -1,14 +1,9 @@
 -- No step leaves a task waiting for what has come.
-use Rattle.std.proofs.Common.{◌≡◌, ℕ, zero, suc, true, get_or, refl, sym, ap, ◌∙◌, arith}
-use Rattle.std.proofs.lemmas.Bool.{true≢false}
-use Rattle.exec_machine.specs.{declared.{config.Configuration.Configuration, state.Waiting.Waiting, step.Action.Action}, Callers.is_enabled, Progress.{Plan}, Run.{Follows, first_tasks}, World.{no_task, own_of}}
-use Rattle.exec_machine.specs.declared.state.Waiting.TheVariants as waiting
-use Rattle.exec_machine.specs.declared.step.Action.TheVariants as action
+use Rattle.std.proofs.{Common.{◌≡◌, ℕ, zero, suc, true, get_or, refl, sym, ap, ◌∙◌, arith}, lemmas.Bool.true≢false}
+use Rattle.exec_machine.specs.{declared.{config.Configuration.Configuration, state.Waiting.{Waiting, Waiting as waiting}, step.Action.{Action, Action as action}}, Callers.is_enabled, Progress.Plan, Run.{Follows, first_tasks}, World.{no_task, own_of}}
 use Rattle.exec_moves.specs.{Move.move, Plays.{Playing, by_action, by_step, desk_of, first_playing}, State.{Moved, Things}}
-use Rattle.exec_rest.specs.{AtRest.{IsPlaced}}
-use Rattle.exec_rest.proofs.Step.{heeds_at}
-use Rattle.exec_settled.specs.{Awaited.IsAwaited, Given.{IsGiven, WaitsFor}}
-use Rattle.exec_settled.proofs.{AwaitedOthers.{leaves, stays_awaited}, AwaitedTasks.is_for_thing, AwaitedWork.work_awaited, TellsAt.tells_at}
+use Rattle.exec_rest.{specs.AtRest.IsPlaced, proofs.Step.heeds_at}
+use Rattle.exec_settled.{specs.{Awaited.IsAwaited, Given.{IsGiven, WaitsFor}}, proofs.{AwaitedOthers.{leaves, stays_awaited}, AwaitedTasks.is_for_thing, AwaitedWork.work_awaited, TellsAt.tells_at}}
 
 -- THE FIRST STATE: nobody waits for anything
 

@@ -1,18 +1,11 @@
 -- Steps of callers, of the clock, the kernel and the peers: they may wake a task or make one, and leave what is told to tasks as it is.
-use Rattle.std.proofs.Common.{◌≡◌, ℕ, zero, suc, Bool, true, false, ◌&&◌, ◌||◌, List, [], ◌∷◌, ◌++◌, get_or, set, Option, refl, sym, ap, ◌∙◌, inl, inr, arith}
-use Rattle.std.proofs.lemmas.{Bool.{true≢false, false≢true, and_parts, cases_Bool}}
-use Rattle.exec_outcomes.specs.{declared.outcome.OpResult.OpResult}
-use Rattle.exec_machine.specs.{declared.{config.Configuration.Configuration, event.Event.Event, state.{MailMessage.MailMessage, Request.Request}, step.Action.Action}, Callers.{after_spawn_by_call, after_wake_by_call, is_enabled}, Choice.Choice, Mail.{after_post, is_left_out, is_root_message}, Progress.is_runnable, Tasks.{woken}, Tests.{is_done, is_ready, is_resolved}, World.{Common, Task, no_request, no_task, request_of, task_of}}
-use Rattle.exec_machine.specs.declared.event.Event.TheVariants as event
-use Rattle.exec_machine.specs.declared.state.RequestPhase.TheVariants as phase
-use Rattle.exec_machine.specs.declared.state.Waiting.TheVariants as waiting
-use Rattle.exec_machine.specs.declared.step.Action.TheVariants as action
-use Rattle.exec_moves.specs.declared.{place.Place.Place}
-use Rattle.exec_moves.specs.{Call.CallDesk, MoveOfCaller.{call_wake}, Plays.{Playing, by_action, desk_of, first_desk}, Poll.is_noted, State.{Desk, Things}}
+use Rattle.std.proofs.{Common.{◌≡◌, ℕ, zero, suc, Bool, true, false, ◌&&◌, ◌||◌, List, [], ◌∷◌, ◌++◌, get_or, set, Option, refl, sym, ap, ◌∙◌, inl, inr, arith}, lemmas.Bool.{true≢false, false≢true, and_parts, cases_Bool}}
+use Rattle.exec_outcomes.specs.declared.outcome.OpResult.{OpResult}
+use Rattle.exec_machine.specs.{declared.{config.Configuration.Configuration, event.Event.{Event, Event as event}, state.{MailMessage.MailMessage, Request.Request, Waiting.Waiting as waiting}, step.Action.{Action, Action as action}}, Callers.{after_spawn_by_call, after_wake_by_call, is_enabled}, Choice.Choice, Mail.{after_post, is_left_out, is_root_message}, Progress.is_runnable, Tasks.woken, Tests.{is_done, is_ready, is_resolved}, World.{Common, Task, no_request, no_task, request_of, task_of}}
+use Rattle.exec_moves.specs.{declared.place.Place.Place, Call.CallDesk, MoveOfCaller.call_wake, Plays.{Playing, by_action, desk_of, first_desk}, Poll.is_noted, State.{Desk, Things}}
 use Rattle.exec_rest.proofs.CallHeeds.{set_at}
-use Rattle.exec_settled.specs.{Awaited.{IsAwaited}}
-use Rattle.exec_settled.proofs.AwaitedTasks.{is_for_thing, woken_done, woken_noticed, woken_runnable}
-use Rattle.exec_settled.proofs.SettledLike.{flying_live}
+use Rattle.exec_settled.{specs.Awaited.IsAwaited, proofs.{AwaitedTasks.{is_for_thing, woken_done, woken_noticed, woken_runnable}, SettledLike.flying_live}}
+use Rattle.exec_machine.specs.declared.state.RequestPhase.TheVariants as phase
 
 -- ONE TASK: the same, woken, or made
 

@@ -1,15 +1,10 @@
 -- What an event of a worker leaves of each request as to its forwarding, and what those do by which a task begins or ends to wait.
-use Rattle.std.proofs.Common.{◌≡◌, ℕ, zero, suc, ◌+◌, ◌<◌, ◌==◌, Bool, true, false, ◌&&◌, ◌||◌, List, [], ◌∷◌, ◌++◌, length, map, get_or, set, Option, Some, None, if◌then◌else◌, unwrap_or, refl, sym, ap, ◌∙◌, subst, inl, inr, arith}
-use Rattle.std.proofs.lemmas.{Bool.{true≢false, false≢true, cases_Bool, cases_lt}, List.{get_or_append_left, get_or-set_same, get_or_past, length-set, set_past}}
-use Rattle.std.specs.Prelude.{◌⊎◌}
+use Rattle.std.{proofs.{Common.{◌≡◌, ℕ, zero, suc, ◌+◌, ◌<◌, ◌==◌, Bool, true, false, ◌&&◌, ◌||◌, List, [], ◌∷◌, ◌++◌, length, map, get_or, set, Option, Some, None, if◌then◌else◌, unwrap_or, refl, sym, ap, ◌∙◌, subst, inl, inr, arith}, lemmas.{Bool.{true≢false, false≢true, cases_Bool, cases_lt}, List.{get_or_append_left, get_or-set_same, get_or_past, length-set, set_past}}}, specs.Prelude.◌⊎◌}
 use Rattle.exec_outcomes.specs.declared.outcome.{OpResult.OpResult, Outcome.Outcome}
-use Rattle.exec_machine.specs.{declared.{config.Configuration.Configuration, event.Event.Event, state.{MailMessage.MailMessage, Request.Request, RequestPhase.RequestPhase, TaskPhase.TaskPhase}}, After.{common_after, polled}, Allowed.Allowed, Choice.{Choice, Payer, Choice.{Plain, Passes, Pays, Posts}, Payer.{ByRequest, BySleeper, ByAct, ByCall, ByStop}}, Closing.{after_clear, after_turn, ends_by_clear, with_cleared}, Deadlines.{enrolled, expired, fires_at}, Mail.{after_message, after_post, after_sending, is_left_out, is_root_message}, Requests.{dropped, flown, granted, reaped}, Tasks.{after_payment, after_pend, after_taking, after_wait, after_wake, after_word, requests_after_drops, without_newest, woken, woken_phase}, Tests.{is_done, is_gated, is_landed_with, is_queued, is_ready, is_resolved, waits_for_nothing}, World.{Common, Own as Books, Task, no_request, no_task, request_of, task_of}}
-use Rattle.exec_machine.specs.declared.event.Event.TheVariants as event
-use Rattle.exec_machine.specs.declared.state.Forwarding.TheVariants as forwarding
-use Rattle.exec_machine.specs.declared.state.MailMessage.TheVariants as message
-use Rattle.exec_machine.specs.declared.state.Waiting.TheVariants as waiting
+use Rattle.exec_machine.specs.{declared.{config.Configuration.Configuration, event.Event.{Event, Event as event}, state.{MailMessage.{MailMessage, MailMessage as message}, Request.Request, RequestPhase.RequestPhase, TaskPhase.TaskPhase, Waiting.Waiting as waiting}}, After.{common_after, polled}, Allowed.Allowed, Choice.{Choice, Payer, Choice.{Plain, Passes, Pays, Posts}, Payer.{ByRequest, BySleeper, ByAct, ByCall, ByStop}}, Closing.{after_clear, after_turn, ends_by_clear, with_cleared}, Deadlines.{enrolled, expired, fires_at}, Mail.{after_message, after_post, after_sending, is_left_out, is_root_message}, Requests.{dropped, flown, granted, reaped}, Tasks.{after_payment, after_pend, after_taking, after_wait, after_wake, after_word, requests_after_drops, without_newest, woken, woken_phase}, Tests.{is_done, is_gated, is_landed_with, is_queued, is_ready, is_resolved, waits_for_nothing}, World.{Common, Own as Books, Task, no_request, no_task, request_of, task_of}}
 use Rattle.exec_moves.specs.Poll.{is_noted}
 use Rattle.exec_rest.proofs.CallHeeds.{set_at}
+use Rattle.exec_machine.specs.declared.state.Forwarding.TheVariants as forwarding
 
 -- ONE REQUEST stays forwarded as it was, and over where it was
 

@@ -1,13 +1,8 @@
 -- What an event of a worker leaves of each sleeper.
-use Rattle.std.proofs.Common.{◌≡◌, ℕ, zero, suc, ◌+◌, ◌<◌, true, false, ◌&&◌, List, [], ◌∷◌, ◌++◌, length, map, get_or, set, Option, Some, None, refl, sym, ◌∙◌, subst, inl, inr, arith}
-use Rattle.std.proofs.lemmas.{Bool.{cases_Bool, eqb-true}, List.{get_or_append_left}}
-use Rattle.std.specs.Prelude.{◌⊎◌}
-use Rattle.exec_machine.specs.{declared.{config.Configuration.Configuration, event.Event.Event, state.{MailMessage.MailMessage, Sleeper.Sleeper, Waiting.Waiting}}, After.{common_after, polled}, Allowed.Allowed, Choice.{Choice, Payer, Payer.{ByRequest, BySleeper, ByAct, ByCall, ByStop}}, Closing.{after_clear, after_turn, ends_by_clear, gone_with, with_cleared}, Deadlines.new_sleeper, Mail.{after_message, after_post, after_sending, is_left_out, is_root_message}, Tasks.{after_payment, after_pend, after_wait, after_wake, after_word, removed, sleepers_after_waking_up}, World.{Common, Own as Books, no_sleeper, sleeper_of, task_of}}
-use Rattle.exec_machine.specs.declared.event.Event.TheVariants as event
-use Rattle.exec_machine.specs.declared.state.Forwarding.TheVariants as forwarding
-use Rattle.exec_machine.specs.declared.state.MailMessage.TheVariants as message
-use Rattle.exec_machine.specs.declared.state.Waiting.TheVariants as waiting
+use Rattle.std.{proofs.{Common.{◌≡◌, ℕ, zero, suc, ◌+◌, ◌<◌, true, false, ◌&&◌, List, [], ◌∷◌, ◌++◌, length, map, get_or, set, Option, Some, None, refl, sym, ◌∙◌, subst, inl, inr, arith}, lemmas.{Bool.{cases_Bool, eqb-true}, List.get_or_append_left}}, specs.Prelude.◌⊎◌}
+use Rattle.exec_machine.specs.{declared.{config.Configuration.Configuration, event.Event.{Event, Event as event}, state.{MailMessage.{MailMessage, MailMessage as message}, Sleeper.Sleeper, Waiting.{Waiting, Waiting as waiting}}}, After.{common_after, polled}, Allowed.Allowed, Choice.{Choice, Payer, Payer.{ByRequest, BySleeper, ByAct, ByCall, ByStop}}, Closing.{after_clear, after_turn, ends_by_clear, gone_with, with_cleared}, Deadlines.new_sleeper, Mail.{after_message, after_post, after_sending, is_left_out, is_root_message}, Tasks.{after_payment, after_pend, after_wait, after_wake, after_word, removed, sleepers_after_waking_up}, World.{Common, Own as Books, no_sleeper, sleeper_of, task_of}}
 use Rattle.exec_rest.proofs.CallHeeds.{set_at}
+use Rattle.exec_machine.specs.declared.state.Forwarding.TheVariants as forwarding
 
 -- ONE SLEEPER
 

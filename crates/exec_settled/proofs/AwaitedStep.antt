@@ -1,19 +1,10 @@
 -- The step of a worker, as far as tasks are woken next, or hear what was sent to them.
-use Rattle.std.proofs.Common.{◌≡◌, ◌≢◌, ℕ, ◌<◌, Bool, true, false, not, ◌&&◌, ◌||◌, length, Some, sym, ap, ◌∙◌, subst, inl, inr, arith}
-use Rattle.std.proofs.lemmas.{Bool.{true≢false, cases_eq}}
-use Rattle.std.specs.Prelude.{◌⊎◌}
+use Rattle.std.{proofs.{Common.{◌≡◌, ◌≢◌, ℕ, ◌<◌, Bool, true, false, not, ◌&&◌, ◌||◌, length, Some, sym, ap, ◌∙◌, subst, inl, inr, arith}, lemmas.Bool.{true≢false, cases_eq}}, specs.Prelude.◌⊎◌}
 use Rattle.exec_outcomes.specs.declared.outcome.Outcome.{Outcome}
-use Rattle.exec_machine.specs.{declared.{config.Configuration.Configuration, state.{Forwarding.Forwarding, TaskPhase.TaskPhase}}, After.common_after, Allowed.Allowed, Callers.{is_enabled}, Progress.is_runnable, Tasks.{begun_waiting, may_stop}, Tests.{has_ended, is_done, is_ready, is_unsent, waits_for_nothing}, World.{Common, Own as Books, Seat, own_of, seat_of, task_of}}
-use Rattle.exec_machine.specs.declared.event.Event.TheVariants as event
-use Rattle.exec_machine.specs.declared.state.Forwarding.TheVariants as forwarding
-use Rattle.exec_machine.specs.declared.state.MailMessage.TheVariants as message
-use Rattle.exec_machine.specs.declared.state.Waiting.TheVariants as waiting
-use Rattle.exec_machine.specs.declared.step.Action.TheVariants as action
+use Rattle.exec_machine.specs.{declared.{config.Configuration.Configuration, state.{Forwarding.{Forwarding, Forwarding as forwarding}, TaskPhase.TaskPhase, MailMessage.MailMessage as message, Waiting.Waiting as waiting}, event.Event.Event as event, step.Action.Action as action}, After.common_after, Allowed.Allowed, Callers.is_enabled, Progress.is_runnable, Tasks.{begun_waiting, may_stop}, Tests.{has_ended, is_done, is_ready, is_unsent, waits_for_nothing}, World.{Common, Own as Books, Seat, own_of, seat_of, task_of}}
 use Rattle.exec_moves.specs.{declared.{handing.{AfterCallbacks.AfterCallbacks, Heard.Heard}, place.{InCallbacks.InCallbacks, InPoll.InPoll, Place.Place}}, Plays.{Playing, by_move, desk_of}, Poll.{after_begin, is_noted}, Seen.polls_at, State.{Desk, Moved, Things}, Told.has_number}
-use Rattle.exec_rest.specs.{Rested.{IsLaidOut, place_at}}
-use Rattle.exec_rest.proofs.{FactsA.seated, Frames.{desk_other, desk_own}}
-use Rattle.exec_settled.specs.{Awaited.{IsToBeWoken, IsToHear}, Given.{WaitsFor}}
-use Rattle.exec_settled.proofs.{AwaitedRequests.{Roused, got, got_timer, there, wakes_it}, AwaitedTasks.{Tasked, is_for_thing, tasked}, Tells.Tells}
+use Rattle.exec_rest.{specs.Rested.{IsLaidOut, place_at}, proofs.{FactsA.seated, Frames.{desk_other, desk_own}}}
+use Rattle.exec_settled.{specs.{Awaited.{IsToBeWoken, IsToHear}, Given.WaitsFor}, proofs.{AwaitedRequests.{Roused, got, got_timer, there, wakes_it}, AwaitedTasks.{Tasked, is_for_thing, tasked}, Tells.Tells}}
 
 runs_by : (p : TaskPhase) → (is_ready p || is_noted p) ≡ true → is_runnable p ≡ true
 runs_by = grind arith

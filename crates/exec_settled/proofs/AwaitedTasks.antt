@@ -1,14 +1,9 @@
 -- What an event of a worker leaves of each task: what it waits for, and whether it is to be polled or was woken.
-use Rattle.std.proofs.Common.{◌≡◌, ℕ, zero, suc, ◌≤◌, Bool, true, false, ◌&&◌, ◌||◌, List, [], ◌∷◌, ◌++◌, length, get_or, set, Option, Some, None, if◌then◌else◌, refl, sym, subst, inl, inr, arith}
-use Rattle.std.proofs.lemmas.{Bool.{cases_Bool, cases_lt}, List.{get_or_append_left, get_or_past, length-set}}
-use Rattle.std.specs.Prelude.{◌⊎◌}
-use Rattle.exec_machine.specs.{declared.{config.Configuration.Configuration, event.Event.Event, state.{MailMessage.MailMessage, TaskPhase.TaskPhase, Waiting.Waiting}}, After.{common_after, polled}, Allowed.Allowed, Choice.{Choice, Payer, Choice.{Pays}, Payer.{ByRequest, BySleeper, ByAct, ByCall, ByStop}}, Closing.{after_clear, after_turn, ends_by_clear, with_cleared}, Mail.{after_message, after_post, after_sending, awaiting, is_left_out, is_root_message}, Progress.is_runnable, Tasks.{after_over, after_payment, after_pend, after_taking, after_word, begun, may_stop, pended_phase, waits_for, woken, woken_phase}, Tests.{is_done, is_ready}, Words.{moved_on}, World.{Common, Own as Books, Task, no_task, task_of}}
-use Rattle.exec_machine.specs.declared.event.Event.TheVariants as event
-use Rattle.exec_machine.specs.declared.state.MailMessage.TheVariants as message
-use Rattle.exec_machine.specs.declared.state.TaskPhase.TheVariants as task
-use Rattle.exec_machine.specs.declared.state.Waiting.TheVariants as waiting
+use Rattle.std.{proofs.{Common.{◌≡◌, ℕ, zero, suc, ◌≤◌, Bool, true, false, ◌&&◌, ◌||◌, List, [], ◌∷◌, ◌++◌, length, get_or, set, Option, Some, None, if◌then◌else◌, refl, sym, subst, inl, inr, arith}, lemmas.{Bool.{cases_Bool, cases_lt}, List.{get_or_append_left, get_or_past, length-set}}}, specs.Prelude.◌⊎◌}
+use Rattle.exec_machine.specs.{declared.{config.Configuration.Configuration, event.Event.{Event, Event as event}, state.{MailMessage.{MailMessage, MailMessage as message}, TaskPhase.{TaskPhase, TaskPhase as task}, Waiting.Waiting}}, After.{common_after, polled}, Allowed.Allowed, Choice.{Choice, Payer, Choice.Pays, Payer.{ByRequest, BySleeper, ByAct, ByCall, ByStop}}, Closing.{after_clear, after_turn, ends_by_clear, with_cleared}, Mail.{after_message, after_post, after_sending, awaiting, is_left_out, is_root_message}, Progress.is_runnable, Tasks.{after_over, after_payment, after_pend, after_taking, after_word, begun, may_stop, pended_phase, waits_for, woken, woken_phase}, Tests.{is_done, is_ready}, Words.moved_on, World.{Common, Own as Books, Task, no_task, task_of}}
 use Rattle.exec_moves.specs.Poll.{is_noted}
 use Rattle.exec_rest.proofs.CallHeeds.{set_at}
+use Rattle.exec_machine.specs.declared.state.Waiting.TheVariants as waiting
 
 -- of a task t before and after an event of worker i
 pub record Tasked (s : Common) (i : ℕ) (e : Event) (t : ℕ) (x y : Task) : Type 0 where

@@ -1,18 +1,10 @@
 -- The step of a worker leaves no task waiting for what has come.
-use Rattle.std.proofs.Common.{◌≡◌, ℕ, ◌<◌, ◌==◌, Bool, true, false, ◌&&◌, ◌||◌, length, Option, Some, None, refl, sym, ap, ◌∙◌, subst, inl, inr, arith}
-use Rattle.std.proofs.lemmas.{Bool.{true≢false, false≢true, cases_Bool, cases_eq, eqb-true}}
-use Rattle.std.specs.Prelude.{◌⊎◌, not, slice_get}
-use Rattle.exec_machine.specs.{declared.{config.Configuration.Configuration, state.{Forwarding.Forwarding, MailMessage.MailMessage}}, After.common_after, Allowed.Allowed, Callers.is_enabled, Mail.is_first_message, Same.same_message, Tasks.{begun_waiting, may_stop}, Tests.{is_applied, is_done, is_resolved, is_unsent}, World.{Common, Own as Books, own_of, request_of, seat_of, sleeper_of, task_of}}
-use Rattle.exec_machine.specs.declared.event.Event.TheVariants as event
-use Rattle.exec_machine.specs.declared.state.Forwarding.TheVariants as forwarding
-use Rattle.exec_machine.specs.declared.state.MailMessage.TheVariants as message
-use Rattle.exec_machine.specs.declared.state.Waiting.TheVariants as waiting
-use Rattle.exec_machine.specs.declared.step.Action.TheVariants as action
+use Rattle.std.{proofs.{Common.{◌≡◌, ℕ, ◌<◌, ◌==◌, Bool, true, false, ◌&&◌, ◌||◌, length, Option, Some, None, refl, sym, ap, ◌∙◌, subst, inl, inr, arith}, lemmas.Bool.{true≢false, false≢true, cases_Bool, cases_eq, eqb-true}}, specs.Prelude.{◌⊎◌, not, slice_get}}
+use Rattle.exec_machine.specs.{declared.{config.Configuration.Configuration, state.{Forwarding.{Forwarding, Forwarding as forwarding}, MailMessage.{MailMessage, MailMessage as message}, Waiting.Waiting as waiting}, event.Event.Event as event, step.Action.Action as action}, After.common_after, Allowed.Allowed, Callers.is_enabled, Mail.is_first_message, Same.same_message, Tasks.{begun_waiting, may_stop}, Tests.{is_applied, is_done, is_resolved, is_unsent}, World.{Common, Own as Books, own_of, request_of, seat_of, sleeper_of, task_of}}
 use Rattle.exec_moves.specs.{declared.{handing.{AfterCallbacks.AfterCallbacks, Heard.Heard}, place.{InCallbacks.InCallbacks, Place.Place}}, Plays.{Playing, by_move, desk_of}, Poll.after_begin, Slots.{is_in_slots, numbers_in}, State.{Moved, Things}, Told.has_number}
 use Rattle.exec_books.{specs.Booked.{FirstIsOwn, IsOwnMessage}, proofs.{Own.{IsOwn, own_by_mail}, Spares.{same_worker, spares}}}
 use Rattle.exec_rest.specs.Rested.{IsLaidOut}
-use Rattle.exec_settled.specs.{Awaited.{IsAwaited, IsToBeWoken, IsToHear}, Given.{IsGiven, IsSleptBy, IsWaitedFor, WaitsFor}}
-use Rattle.exec_settled.proofs.{AwaitedRequests.{Forwarded, Waited, begins_elsewhere, begins_here, forwarded}, AwaitedSleepers.{Dozed, begins_sleep, dozed}, AwaitedStep.{desk_then, for_request, for_timer, hears_next, still_hears, still_woken, stops_not, takes_request, takes_timer}, Tells.Tells}
+use Rattle.exec_settled.{specs.{Awaited.{IsAwaited, IsToBeWoken, IsToHear}, Given.{IsGiven, IsSleptBy, IsWaitedFor, WaitsFor}}, proofs.{AwaitedRequests.{Forwarded, Waited, begins_elsewhere, begins_here, forwarded}, AwaitedSleepers.{Dozed, begins_sleep, dozed}, AwaitedStep.{desk_then, for_request, for_timer, hears_next, still_hears, still_woken, stops_not, takes_request, takes_timer}, Tells.Tells}}
 
 -- A forward that is applied is of a request or a sleeper of its own.
 abbrev IsOwnForward : Common → ℕ → MailMessage → Type 0

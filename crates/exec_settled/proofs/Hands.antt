@@ -1,6 +1,5 @@
 -- What the move of a worker does as far as permits go. Each move does it; and whatever does it keeps what holds.
-use Rattle.std.proofs.Common.{◌≡◌, ℕ, ◌<◌, true, false, [], ◌∷◌, ◌++◌, length, Some}
-use Rattle.std.specs.Prelude.{◌⊎◌, drop, slice_get}
+use Rattle.std.{proofs.Common.{◌≡◌, ℕ, ◌<◌, true, false, [], ◌∷◌, ◌++◌, length, Some}, specs.Prelude.{◌⊎◌, drop, slice_get}}
 use Rattle.exec_outcomes.specs.Accounts.{is_durable}
 use Rattle.exec_machine.specs.{Tests.{is_gated, is_resolved}, World.{Common, request_of}}
 use Rattle.exec_moves.specs.{declared.place.{InPoll.InPoll, Place.Place}, State.{Desk, Moved, Things, gate_of, word_of}}

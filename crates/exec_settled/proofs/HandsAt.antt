@@ -1,11 +1,8 @@
 -- Each move of a worker does what permits ask for.
 use Rattle.std.proofs.Common.{◌≡◌, ℕ, false, refl, sym, ap, ◌∙◌}
 use Rattle.exec_machine.specs.{declared.config.Configuration.Configuration, After.common_after, World.{Common, Own as Books}}
-use Rattle.exec_moves.specs.{declared.place.Place.Place, Move.{move, move_at}, State.{Desk, Things}}
-use Rattle.exec_moves.specs.declared.place.Place.TheVariants as at
-use Rattle.exec_settled.specs.Given.{ends_in_search}
-use Rattle.exec_settled.proofs.HandsServe.{AreOfGate, AreUndated}
-use Rattle.exec_settled.proofs.{Hands.Hands, HandsIdle.{loads, looks, reads, ring_waits, scans, searches, tests, withdraws_by, word_waits}, HandsMovesA.{begins, claims, globals, kicks, leaves, mails, picks, pops_one, pushes, signalled, takes_flag}, HandsMovesB.{calls, closes, sends_cancel}, HandsPlain.{HandsBy, plain_hands}, HandsPoll.polls, HandsService.service}
+use Rattle.exec_moves.specs.{declared.place.Place.{Place, Place as at}, Move.{move, move_at}, State.{Desk, Things}}
+use Rattle.exec_settled.{specs.Given.ends_in_search, proofs.{HandsServe.{AreOfGate, AreUndated}, Hands.Hands, HandsIdle.{loads, looks, reads, ring_waits, scans, searches, tests, withdraws_by, word_waits}, HandsMovesA.{begins, claims, globals, kicks, leaves, mails, picks, pops_one, pushes, signalled, takes_flag}, HandsMovesB.{calls, closes, sends_cancel}, HandsPlain.{HandsBy, plain_hands}, HandsPoll.polls, HandsService.service}}
 
 module _ (c : Configuration) (i : ℕ) (me : Books) (s : Common) (d : Desk) (x : Things) (undated : AreUndated s) (of_gate : AreOfGate s x) (off : ends_in_search d.place ≡ false) where
   hands_in : (p : Place) → d.place ≡ p → HandsBy c i me s d x d (move_at c i me s d x p)

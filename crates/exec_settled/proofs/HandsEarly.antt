@@ -1,9 +1,8 @@
 -- Where the parts lead: whoever has not passed the gate of this open hasn't done so there either.
-use Rattle.std.proofs.Common.{◌≡◌, ℕ, Bool, true, false, refl, ◌&&◌, if◌then◌else◌, arith}
-use Rattle.std.specs.Prelude.{nat_le, not}
+use Rattle.std.{proofs.Common.{◌≡◌, ℕ, Bool, true, false, refl, ◌&&◌, if◌then◌else◌, arith}, specs.Prelude.{nat_le, not}}
 use Rattle.exec_words.specs.declared.head.{Fit.Fit, Head.Head}
-use Rattle.exec_machine.specs.{declared.{config.Configuration.Configuration}, World.{Common, Own as Books}}
-use Rattle.exec_moves.specs.{declared.{handing.{AfterCallbacks.AfterCallbacks, AfterKick.AfterKick, AfterLeave.AfterLeave, AfterPush.AfterPush, AfterSignal.AfterSignal}, place.Place.Place}, Callback.{after_callbacks, has_callbacks, is_of_pool, next_callback, to_queue}, Parts.{after_kick, after_leave, after_push, after_return, after_signal, has_others}, Push.{after_fit, after_store}, Send.{after_spawn}, State.Desk}
+use Rattle.exec_machine.specs.{declared.config.Configuration.Configuration, World.{Common, Own as Books}}
+use Rattle.exec_moves.specs.{declared.{handing.{AfterCallbacks.AfterCallbacks, AfterKick.AfterKick, AfterLeave.AfterLeave, AfterPush.AfterPush, AfterSignal.AfterSignal}, place.Place.Place}, Callback.{after_callbacks, has_callbacks, is_of_pool, next_callback, to_queue}, Parts.{after_kick, after_leave, after_push, after_return, after_signal, has_others}, Push.{after_fit, after_store}, Send.after_spawn, State.Desk}
 use Rattle.exec_settled.specs.Permits.{is_past, is_past_callbacks, is_past_kick, is_past_leave, is_past_push, is_past_signal}
 use Rattle.exec_rest.proofs.Continuing.{is_light, light_next_pick, light_next_turn, light_after_send}
 

@@ -1,9 +1,7 @@
 -- A durable request that isn't over stays so by each event but its reaping, its grant, and what its deadline brings.
-use Rattle.std.proofs.Common.{◌≡◌, ℕ, zero, suc, Bool, true, false, ◌==◌, List, [], ◌∷◌, ◌++◌, Option, map, sym, ◌∙◌, ap, subst, inl, inr, get_or, set, arith}
-use Rattle.std.proofs.lemmas.Bool.{false≢true, cases_Bool}
+use Rattle.std.proofs.{Common.{◌≡◌, ℕ, zero, suc, Bool, true, false, ◌==◌, List, [], ◌∷◌, ◌++◌, Option, map, sym, ◌∙◌, ap, subst, inl, inr, get_or, set, arith}, lemmas.Bool.{false≢true, cases_Bool}}
 use Rattle.exec_outcomes.specs.{declared.outcome.Kind.Kind, Accounts.is_durable}
-use Rattle.exec_machine.specs.{declared.{config.Configuration.Configuration, event.Event.Event, state.{MailMessage.MailMessage, Operation.Operation, Request.Request}}, Choice.{Choice, Payer}, World.{Own, Common, request_of, no_request}, Tests.{is_of_file, is_resolved}, Requests.{dropped, flown}, Tasks.{requests_after_drops, after_wait, after_payment, after_wake, after_pend}, Mail.{after_sending, after_apply}, Closing.{after_turn, after_clear}, After.{common_after}}
-use Rattle.exec_machine.specs.declared.event.Event.TheVariants as event
+use Rattle.exec_machine.specs.{declared.{config.Configuration.Configuration, event.Event.{Event, Event as event}, state.{MailMessage.MailMessage, Operation.Operation, Request.Request}}, Choice.{Choice, Payer}, World.{Own, Common, request_of, no_request}, Tests.{is_of_file, is_resolved}, Requests.{dropped, flown}, Tasks.{requests_after_drops, after_wait, after_payment, after_wake, after_pend}, Mail.{after_sending, after_apply}, Closing.{after_turn, after_clear}, After.common_after}
 use Rattle.exec_books.proofs.Spares.{word_requests, post_requests}
 
 -- what is durable is of a file, and goes on where nobody holds it

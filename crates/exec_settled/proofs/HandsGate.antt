@@ -1,11 +1,7 @@
 -- Gates in the middle of a service: they are looked at by their numbers, and none is passed at which a request of the worker stands first and waits.
-use Rattle.std.proofs.Common.{◌≡◌, ℕ, zero, suc, ◌+◌, ◌<◌, ◌≤◌, ◌&&◌, Bool, true, false, List, [], ◌∷◌, length, get_or, set, if◌then◌else◌, Some, None, ◌∙◌, refl, sym, ap, arith}
-use Rattle.std.proofs.lemmas.Bool.{true≢false, false≢true, and_parts, or_left, or_right, eq-eqb, and_from, le-leb, ltb-false, ltb-true}
-use Rattle.std.specs.Prelude.{nat_le, nat_lt, slice_get}
-use Rattle.std.specs.List.{list_any}
+use Rattle.std.{proofs.{Common.{◌≡◌, ℕ, zero, suc, ◌+◌, ◌<◌, ◌≤◌, ◌&&◌, Bool, true, false, List, [], ◌∷◌, length, get_or, set, if◌then◌else◌, Some, None, ◌∙◌, refl, sym, ap, arith}, lemmas.Bool.{true≢false, false≢true, and_parts, or_left, or_right, eq-eqb, and_from, le-leb, ltb-false, ltb-true}}, specs.{Prelude.{nat_le, nat_lt, slice_get}, List.list_any}}
 use Rattle.exec_machine.specs.{declared.{config.Configuration.Configuration, state.Request.Request}, Deadlines.{is_due, is_first_due, is_told_after}, Tests.{all_numbered, is_gated, is_resolved}, World.{Common, Own as Books, no_open, no_request, request_of}}
-use Rattle.exec_moves.specs.{declared.place.{InService.InService, Service.Service}, Serve.first_numbered, Submit.{first_due, granted_at, next_gate, waits_at}}
-use Rattle.exec_moves.specs.declared.place.Place.TheVariants as at
+use Rattle.exec_moves.specs.{declared.place.{InService.InService, Service.Service, Place.Place as at}, Serve.first_numbered, Submit.{first_due, granted_at, next_gate, waits_at}}
 use Rattle.exec_rest.proofs.Sides.{put_cases}
 use Rattle.exec_settled.specs.Permits.{is_past, is_past_in}
 

@@ -1,16 +1,9 @@
 -- Moves of a worker that looks whether it may wait, and of its waits: the latch goes out of its wake word as a wait ends.
 use Rattle.std.proofs.Common.{◌≡◌, ℕ, Bool, false, refl, if◌then◌else◌, arith}
-use Rattle.exec_words.specs.Word.{is_idle_at}
-use Rattle.exec_words.specs.declared.word.PureWord.{PureWord}
-use Rattle.exec_machine.specs.{declared.{config.Configuration.Configuration, event.Event.{TheVariants.{Sleep, Turn}}}, Deadlines.next_due, World.{Common, Own as Books, seat_of}}
-use Rattle.exec_moves.specs.{declared.{idling.{AfterWait.AfterWait, InLook.InLook, InRingWait.InRingWait, InScan.InScan, InSearch.InSearch, InWordWait.InWordWait, Stay.Stay}, place.{Found.Found, InLoads.InLoads, Round.Round}}, Callback.{is_of_pool}, Load.{has_come, test_for_work}, Look.{withdraw}, Move.{move_loads, move_look, move_ring_wait, move_scan, move_search, move_word_wait}, State.{Desk, Things, does, turns, word_of}, Thing.{aside, ring_of, with_idle, with_ring, with_word}, Wait.{after_sleep, after_wait, disarmed, enter_full_ring, enter_ring, goes_back, has_completion, noting_sleep, read_clock, withdraws}}
-use Rattle.exec_moves.specs.declared.idling.AfterWait.TheVariants as next
-use Rattle.exec_moves.specs.declared.idling.InRingWait.TheVariants as ring
-use Rattle.exec_moves.specs.declared.idling.InWordWait.TheVariants as word
-use Rattle.exec_moves.specs.declared.place.Place.TheVariants as at
-use Rattle.exec_settled.specs.Given.{ends_in_search}
-use Rattle.exec_settled.specs.Permits.{is_past}
-use Rattle.exec_settled.proofs.{HandsEarly.{IsEarly, early_if}, HandsPlain.{Plain, kept_word, own_out, plain, plain_if, plain_late}}
+use Rattle.exec_words.specs.{Word.is_idle_at, declared.word.PureWord.PureWord}
+use Rattle.exec_machine.specs.{declared.{config.Configuration.Configuration, event.Event.TheVariants.{Sleep, Turn}}, Deadlines.next_due, World.{Common, Own as Books, seat_of}}
+use Rattle.exec_moves.specs.{declared.{idling.{AfterWait.{AfterWait, AfterWait as next}, InLook.InLook, InRingWait.{InRingWait, InRingWait as ring}, InScan.InScan, InSearch.InSearch, InWordWait.{InWordWait, InWordWait as word}, Stay.Stay}, place.{Found.Found, InLoads.InLoads, Round.Round, Place.Place as at}}, Callback.is_of_pool, Load.{has_come, test_for_work}, Look.withdraw, Move.{move_loads, move_look, move_ring_wait, move_scan, move_search, move_word_wait}, State.{Desk, Things, does, turns, word_of}, Thing.{aside, ring_of, with_idle, with_ring, with_word}, Wait.{after_sleep, after_wait, disarmed, enter_full_ring, enter_ring, goes_back, has_completion, noting_sleep, read_clock, withdraws}}
+use Rattle.exec_settled.{specs.{Given.ends_in_search, Permits.is_past}, proofs.{HandsEarly.{IsEarly, early_if}, HandsPlain.{Plain, kept_word, own_out, plain, plain_if, plain_late}}}
 
 -- on its ring it stays before or behind the gates, whichever step of the wait is next
 stays_on_ring : (f : ℕ) (y : Stay) → is_past f (at.RingWait ring.TestRing y) ≡ false → is_past f (at.RingWait ring.ArmRing y) ≡ false

@@ -1,14 +1,9 @@
 -- Plain moves: of the beginning of a turn, of the own run queue, of the handing on of what was queued, and of the mailbox.
 use Rattle.std.proofs.Common.{◌≡◌, ℕ, Bool, true, false, List, ◌-◌, ◌==◌, Option, refl, if◌then◌else◌, arith}
 use Rattle.exec_words.specs.{declared.idle.WorkerSet.WorkerSet, Idle.lowest_of, Queue.{Queue, head_of, tail_of}}
-use Rattle.exec_machine.specs.{declared.{config.Configuration.Configuration, event.Event.{Event}, state.MailMessage.MailMessage}, World.{Common, Own as Books}}
-use Rattle.exec_moves.specs.{declared.{handing.{AfterClaim.AfterClaim, AfterKick.AfterKick, AfterLeave.AfterLeave, AfterPop.AfterPop, AfterPush.AfterPush, AfterSignal.AfterSignal, InGlobal.InGlobal, InKick.InKick, InPop.InPop, InPush.InPush, InSignal.InSignal}, place.{InMail.InMail, InPick.InPick}}, Claim.{after_claim, claim_worker, claimed_if, same_bools, set_of}, Kick.leave_search, Mail.{apply, take_mail}, Move.{move_global, move_kick, move_mail, move_pick, move_pop, move_push, move_signal}, Pick.{begin_turn, take_root_flag}, Pop.{load_pop_head, pops, same_head}, State.{Desk, Things, queue_of}, Thing.{aside, set_queue, with_idle, with_inbox, with_queue}}
-use Rattle.exec_moves.specs.declared.handing.InPop.TheVariants as pop
-use Rattle.exec_moves.specs.declared.handing.InPush.TheVariants as push
-use Rattle.exec_moves.specs.declared.place.InMail.TheVariants as mail
-use Rattle.exec_moves.specs.declared.place.Place.TheVariants as at
-use Rattle.exec_settled.specs.Permits.{is_past}
-use Rattle.exec_settled.proofs.{HandsEarly.{early_after_fit, early_after_kick, early_after_push, early_after_return, early_after_signal, early_after_store, early_if, early_light}, HandsEvents.is_mild, HandsPlain.{Plain, kept_word, plain, plain_if, plain_late}}
+use Rattle.exec_machine.specs.{declared.{config.Configuration.Configuration, event.Event.Event, state.MailMessage.MailMessage}, World.{Common, Own as Books}}
+use Rattle.exec_moves.specs.{declared.{handing.{AfterClaim.AfterClaim, AfterKick.AfterKick, AfterLeave.AfterLeave, AfterPop.AfterPop, AfterPush.AfterPush, AfterSignal.AfterSignal, InGlobal.InGlobal, InKick.InKick, InPop.{InPop, InPop as pop}, InPush.{InPush, InPush as push}, InSignal.InSignal}, place.{InMail.{InMail, InMail as mail}, InPick.InPick, Place.Place as at}}, Claim.{after_claim, claim_worker, claimed_if, same_bools, set_of}, Kick.leave_search, Mail.{apply, take_mail}, Move.{move_global, move_kick, move_mail, move_pick, move_pop, move_push, move_signal}, Pick.{begin_turn, take_root_flag}, Pop.{load_pop_head, pops, same_head}, State.{Desk, Things, queue_of}, Thing.{aside, set_queue, with_idle, with_inbox, with_queue}}
+use Rattle.exec_settled.{specs.Permits.is_past, proofs.{HandsEarly.{early_after_fit, early_after_kick, early_after_push, early_after_return, early_after_signal, early_after_store, early_if, early_light}, HandsEvents.is_mild, HandsPlain.{Plain, kept_word, plain, plain_if, plain_late}}}
 use Rattle.exec_rest.proofs.Continuing.{light_polls, light_first_pick, light_after_pop, light_after_empty_pop, light_judge_pop}
 
 -- a signal rouses or not

@@ -1,17 +1,9 @@
 -- Plain moves: those by which a message is sent, of a closing, and of the callbacks.
-use Rattle.std.proofs.Common.{◌≡◌, ℕ, true, false, List, [], ◌+◌, ◌-◌, Option, Some, refl, length, arith}
-use Rattle.std.specs.Prelude.{drop, slice_get, slice_index_or}
+use Rattle.std.{proofs.Common.{◌≡◌, ℕ, true, false, List, [], ◌+◌, ◌-◌, Option, Some, refl, length, arith}, specs.Prelude.{drop, slice_get, slice_index_or}}
 use Rattle.exec_task.specs.declared.drain.Drain.{Drain}
 use Rattle.exec_machine.specs.{declared.{config.Configuration.Configuration, state.MailMessage.{MailMessage, TheVariants.Root}}, Choice.{Choice, Choice.{Plain as Open, Posts}}, Ranges.ring_size, World.{Common, Task, request_of, sleeper_of, task_of, Own as Books}}
-use Rattle.exec_moves.specs.{declared.{handing.{AfterCallbacks.AfterCallbacks, AfterCancels.AfterCancels, AfterSend.AfterSend, Heard.Heard}, place.{InCallbacks.InCallbacks, InClosing.InClosing, Place.Place}}, Callback.{Item, Item.{Answers, Completes, LetsGo, Nothing, Releases, Wakes}, tells_waiter, woken_by}, Close.{close_sleeper, first_asleep, first_held, orphan, told_of_clear, visit}, Move.{move_callbacks, move_closing, move_item}, Pop.shard_count, Send.{Mailbox, first_letter, is_left_out, payer_of_send, posted, posting_of, send_cancel, send_root, sent}, State.{Desk, Things}, Thing.{aside, mailbox_of, with_mailbox, with_shard}}
-use Rattle.exec_moves.specs.declared.handing.AfterCancels.TheVariants as cancels
-use Rattle.exec_moves.specs.declared.handing.AfterSend.TheVariants as send
-use Rattle.exec_moves.specs.declared.handing.Heard.TheVariants as heard
-use Rattle.exec_moves.specs.declared.place.InCallbacks.TheVariants as callback
-use Rattle.exec_moves.specs.declared.place.InClosing.TheVariants as closing
-use Rattle.exec_moves.specs.declared.place.Place.TheVariants as at
-use Rattle.exec_settled.specs.Permits.{is_past_callbacks}
-use Rattle.exec_settled.proofs.{HandsEarly.{IsEarly, early_desk_if, early_if, early_next_callback, early_to_queue, early_light}, HandsPlain.{Plain, kept_word, plain}}
+use Rattle.exec_moves.specs.{declared.{handing.{AfterCallbacks.AfterCallbacks, AfterCancels.{AfterCancels, AfterCancels as cancels}, AfterSend.{AfterSend, AfterSend as send}, Heard.{Heard, Heard as heard}}, place.{InCallbacks.{InCallbacks, InCallbacks as callback}, InClosing.{InClosing, InClosing as closing}, Place.{Place, Place as at}}}, Callback.{Item, Item.{Answers, Completes, LetsGo, Nothing, Releases, Wakes}, tells_waiter, woken_by}, Close.{close_sleeper, first_asleep, first_held, orphan, told_of_clear, visit}, Move.{move_callbacks, move_closing, move_item}, Pop.shard_count, Send.{Mailbox, first_letter, is_left_out, payer_of_send, posted, posting_of, send_cancel, send_root, sent}, State.{Desk, Things}, Thing.{aside, mailbox_of, with_mailbox, with_shard}}
+use Rattle.exec_settled.{specs.Permits.is_past_callbacks, proofs.{HandsEarly.{IsEarly, early_desk_if, early_if, early_next_callback, early_to_queue, early_light}, HandsPlain.{Plain, kept_word, plain}}}
 use Rattle.exec_rest.proofs.Continuing.{light_tells_from, light_cancels_left, light_after_posting, light_after_close, light_after_letting_go}
 
 -- A MESSAGE: of the wake word the batch alone changes

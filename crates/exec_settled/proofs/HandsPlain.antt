@@ -1,12 +1,10 @@
 -- Moves that leave all gates as they are, and by which no durable request ends.
-use Rattle.std.proofs.Common.{◌≡◌, ◌<◌, length, ℕ, zero, suc, Bool, true, false, List, [], ◌∷◌, Option, Some, None, refl, sym, ap, ◌∙◌, slice_set, slice_index_or, if◌then◌else◌, arith}
-use Rattle.std.proofs.lemmas.Bool.{true≢false}
+use Rattle.std.proofs.{Common.{◌≡◌, ◌<◌, length, ℕ, zero, suc, Bool, true, false, List, [], ◌∷◌, Option, Some, None, refl, sym, ap, ◌∙◌, slice_set, slice_index_or, if◌then◌else◌, arith}, lemmas.Bool.true≢false}
 use Rattle.exec_outcomes.specs.Accounts.{is_durable}
 use Rattle.exec_words.specs.declared.word.PureWord.{PureWord}
 use Rattle.exec_machine.specs.{declared.config.Configuration.Configuration, After.common_after, Tests.is_resolved, World.{Common, Own as Books, request_of}}
 use Rattle.exec_moves.specs.{declared.place.Place.Place, State.{Desk, Moved, Things, gate_of, no_word, word_of}, Thing.{puts, set_word}}
-use Rattle.exec_settled.specs.{Given.passes_at, Permits.{hands_to, is_past}}
-use Rattle.exec_settled.proofs.{Hands.Hands, HandsEvents.{by_mild, is_mild}}
+use Rattle.exec_settled.{specs.{Given.passes_at, Permits.{hands_to, is_past}}, proofs.{Hands.Hands, HandsEvents.{by_mild, is_mild}}}
 
 abbrev is_there : {T : Type 0} → Option T → Bool
 is_there None = false

@@ -1,20 +1,11 @@
 -- Moves of a poll: a request joins a gate, and all else is plain.
-use Rattle.std.proofs.Common.{◌≡◌, ℕ, Bool, true, false, ◌==◌, Option, Some, None, refl, ◌∙◌, if◌then◌else◌, length, arith}
-use Rattle.std.proofs.lemmas.Bool.{true≢false, cases_Bool, eqb-true, eq-eqb}
-use Rattle.std.proofs.lemmas.{Grind.get_or-set_at, List.get_or-set_other}
+use Rattle.std.proofs.{Common.{◌≡◌, ℕ, Bool, true, false, ◌==◌, Option, Some, None, refl, ◌∙◌, if◌then◌else◌, length, arith}, lemmas.{Bool.{true≢false, cases_Bool, eqb-true, eq-eqb}, Grind.get_or-set_at, List.get_or-set_other}}
 use Rattle.exec_words.specs.Queue.{tail_of}
-use Rattle.exec_machine.specs.{declared.{config.{Configuration.Configuration, ScriptWord.ScriptWord}, event.Event.{TheVariants.{Closed, Dedicated}}, state.{Operation.Operation, RequestPhase.RequestPhase, Waiting.Waiting}}, Choice.Choice.Plain as Open, Requests.operation_asked, Tests.{is_idle}, World.{Common, Task, request_of, sleeper_of, task_of, Own as Books}, Words.{next_word}}
-use Rattle.exec_machine.specs.declared.config.ScriptWord.TheVariants as script
-use Rattle.exec_machine.specs.declared.state.RequestPhase.TheVariants as phase
+use Rattle.exec_machine.specs.{declared.{config.{Configuration.Configuration, ScriptWord.{ScriptWord, ScriptWord as script}}, event.Event.TheVariants.{Closed, Dedicated}, state.{Operation.Operation, RequestPhase.{RequestPhase, RequestPhase as phase}, Waiting.Waiting}}, Choice.Choice.Plain as Open, Requests.operation_asked, Tests.is_idle, World.{Common, Task, request_of, sleeper_of, task_of, Own as Books}, Words.next_word}
+use Rattle.exec_moves.specs.{declared.{handing.{AfterSend.{AfterSend, AfterSend as send}, AfterPush.AfterPush as push}, place.{InPoll.{InPoll, InPoll as poll}, Place.{Place, Place as at}}}, Move.{move_act, move_look_at, move_poll, move_wake}, Poll.{Sight, Sight.{Asks, HearsRequest, HearsTimer, Here}, act, act_asked, act_by, after_pend, heard_by, pend, requeued_if, resume, sight_of, sight_of_act}, Send.{next_task, with_newcomer}, State.{Desk, Moved, Things, does, goes, queue_of}, Told.has_number, Thing.{aside, set_alarms, with_answers}}
+use Rattle.exec_rest.proofs.{Continuing.{light_next_pick, light_cancels_left}, Asides.newcomer}
+use Rattle.exec_settled.{specs.Permits.is_past, proofs.{HandsEarly.{IsEarly, early_after_spawn, early_desk_if, early_if, early_to_queue, early_light}, HandsMovesA.mild_if, HandsMovesB.{posts, posts_root}, HandsPlain.{HandsBy, Plain, mild_over, plain, plain_hands, plain_if, some_none}}}
 use Rattle.exec_machine.specs.declared.state.Waiting.TheVariants as waiting
-use Rattle.exec_moves.specs.{declared.{handing.AfterSend.AfterSend, place.{InPoll.InPoll, Place.Place}}, Move.{move_act, move_look_at, move_poll, move_wake}, Poll.{Sight, Sight.{Asks, HearsRequest, HearsTimer, Here}, act, act_asked, act_by, after_pend, heard_by, pend, requeued_if, resume, sight_of, sight_of_act}, Send.{next_task, with_newcomer}, State.{Desk, Moved, Things, does, goes, queue_of}, Told.{has_number}, Thing.{aside, set_alarms, with_answers}}
-use Rattle.exec_moves.specs.declared.handing.AfterPush.TheVariants as push
-use Rattle.exec_moves.specs.declared.handing.AfterSend.TheVariants as send
-use Rattle.exec_moves.specs.declared.place.InPoll.TheVariants as poll
-use Rattle.exec_moves.specs.declared.place.Place.TheVariants as at
-use Rattle.exec_rest.proofs.{Continuing.{light_next_pick, light_cancels_left}, Asides.{newcomer}}
-use Rattle.exec_settled.specs.Permits.{is_past}
-use Rattle.exec_settled.proofs.{HandsEarly.{IsEarly, early_after_spawn, early_desk_if, early_if, early_to_queue, early_light}, HandsMovesA.mild_if, HandsMovesB.{posts, posts_root}, HandsPlain.{HandsBy, Plain, mild_over, plain, plain_hands, plain_if, some_none}}
 
 module _ (c : Configuration) (i : ℕ) (me : Books) (s : Common) (d : Desk) (x : Things) (t : ℕ) (from : InPoll) (here : (f : ℕ) → is_past f d.place ≡ false) where
   abbrev p : Place

@@ -1,19 +1,10 @@
 -- What the moves of a service do with gates and permits.
-use Rattle.std.proofs.Common.{◌≡◌, ℕ, suc, unwrap_or, Bool, true, false, List, [], ◌∷◌, get_or, set, Option, Some, None, refl, sym, ap, subst, ◌∙◌, inl, if◌then◌else◌, arith}
-use Rattle.std.proofs.lemmas.Bool.{true≢false, false≢true, cases_Bool, eqb-true, eq-eqb}
-use Rattle.std.proofs.lemmas.{Grind.get_or-set_at, List.{get_or-set_other, get_or-set_same}}
-use Rattle.std.specs.Prelude.{nat_lt, slice_get}
+use Rattle.std.{proofs.{Common.{◌≡◌, ℕ, suc, unwrap_or, Bool, true, false, List, [], ◌∷◌, get_or, set, Option, Some, None, refl, sym, ap, subst, ◌∙◌, inl, if◌then◌else◌, arith}, lemmas.{Bool.{true≢false, false≢true, cases_Bool, eqb-true, eq-eqb}, Grind.get_or-set_at, List.{get_or-set_other, get_or-set_same}}}, specs.Prelude.{nat_lt, slice_get}}
 use Rattle.exec_outcomes.specs.{declared.outcome.{OpResult.OpResult, Outcome.Outcome}, Accounts.{Account, is_durable}}
-use Rattle.exec_machine.specs.{declared.{config.Configuration.Configuration, event.Event.{Event, TheVariants.{Serve}}, state.{Request.Request, Sleeper.Sleeper}}, After.common_after, Requests.{granted, outcome_shown, reaped}, Tests.{is_gated, is_of_file, is_resolved}, World.{Common, Own as Books, no_request, request_of}}
-use Rattle.exec_moves.specs.{declared.place.{AfterPermit.AfterPermit, InService.InService, Place.Place, Reaping.Reaping, Service.Service}, Move.move_service, Serve.{after_passing, after_permit, after_reap, after_service, back_from_reap, end_service, enter_last, first_to_fire, reap}, State.{Desk, Moved, Things, gate_of, word_of}, Thing.{aside, ring_of, with_ring}, Told.{told_of_fire}}
-use Rattle.exec_moves.specs.{Submit.{Due, Due.{AtGate, Enrols, Expires}, after_grant, first_due, granted_at, next_gate, submits}, Move.move_submit, Thing.set_gate, State.does}
-use Rattle.exec_machine.specs.{declared.event.Event.TheVariants.Grant, Choice.Choice.Plain as Open, Deadlines.{enrolled, expired, fires_at, outcome_at_enrol, outcome_at_expiry}}
+use Rattle.exec_machine.specs.{declared.{config.Configuration.Configuration, event.Event.{Event, TheVariants.{Serve, Grant}}, state.{Request.Request, Sleeper.Sleeper}}, After.common_after, Requests.{granted, outcome_shown, reaped}, Tests.{is_gated, is_of_file, is_resolved}, World.{Common, Own as Books, no_request, request_of}, Choice.Choice.Plain as Open, Deadlines.{enrolled, expired, fires_at, outcome_at_enrol, outcome_at_expiry}}
+use Rattle.exec_moves.specs.{declared.place.{AfterPermit.{AfterPermit, AfterPermit as permit}, InService.{InService, InService as step}, Place.{Place, Place as at}, Reaping.Reaping, Service.Service}, Move.{move_service, move_submit}, Serve.{after_passing, after_permit, after_reap, after_service, back_from_reap, end_service, enter_last, first_to_fire, reap}, State.{Desk, Moved, Things, gate_of, word_of, does}, Thing.{aside, ring_of, with_ring, set_gate}, Told.told_of_fire, Submit.{Due, Due.{AtGate, Enrols, Expires}, after_grant, first_due, granted_at, next_gate, submits}}
 use Rattle.exec_rest.proofs.Asides.{put_same}
-use Rattle.exec_moves.specs.declared.place.AfterPermit.TheVariants as permit
-use Rattle.exec_moves.specs.declared.place.InService.TheVariants as step
-use Rattle.exec_moves.specs.declared.place.Place.TheVariants as at
-use Rattle.exec_settled.specs.{Given.passes_at, Permits.{is_past, is_past_in, is_past_permit, is_past_reaping}}
-use Rattle.exec_settled.proofs.{HandsEvents.{durable_of_file, is_mild}, HandsGate.{first_is_due, gated_there, granted_first, granted_is_first, opened, over_one, some_gate, stays_early, this_gate, undue}, HandsMovesA.mild_if, HandsPlain.{HandsBy, Kept, Plain, kept_out, mild_over, plain, plain_hands, same_gates, some_none}}
+use Rattle.exec_settled.{specs.{Given.passes_at, Permits.{is_past, is_past_in, is_past_permit, is_past_reaping}}, proofs.{HandsEvents.{durable_of_file, is_mild}, HandsGate.{first_is_due, gated_there, granted_first, granted_is_first, opened, over_one, some_gate, stays_early, this_gate, undue}, HandsMovesA.mild_if, HandsPlain.{HandsBy, Kept, Plain, kept_out, mild_over, plain, plain_hands, same_gates, some_none}}}
 
 -- a request of a file has no deadline
 abbrev pub AreUndated : Common → Type 0

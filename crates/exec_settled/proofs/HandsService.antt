@@ -1,15 +1,10 @@
 -- All moves of a service.
-use Rattle.std.proofs.Common.{◌≡◌, ℕ, suc, arith, Bool, true, false, Option, Some, None, refl, sym, ap, subst}
-use Rattle.std.proofs.lemmas.Bool.{false≢true, lt-leb}
-use Rattle.std.proofs.lemmas.List.{get_or-set_same}
-use Rattle.std.specs.Prelude.{slice_get}
+use Rattle.std.{proofs.{Common.{◌≡◌, ℕ, suc, arith, Bool, true, false, Option, Some, None, refl, sym, ap, subst}, lemmas.{Bool.{false≢true, lt-leb}, List.get_or-set_same}}, specs.Prelude.slice_get}
 use Rattle.exec_words.specs.Word.{asks_signal}
 use Rattle.exec_machine.specs.{declared.config.Configuration.Configuration, World.{Common, Own as Books, seat_of}}
-use Rattle.exec_moves.specs.{declared.place.{AfterPermit.AfterPermit, InService.InService, Place.Place, Service.Service}, Claim.latched, Move.{move_service, move_submit}, Serve.{after_latch, first_to_fire, unlatched}, State.{Desk, Things, gate_of, no_word, word_of}, Submit.{Due, Due.{AtGate, Cancels, Ends, Enrols, Expires, Flushes, Stages}, first_due, granted_at, next_gate, or_else, stage_next, staging_due}, Thing.{ring_of, with_ring}}
-use Rattle.exec_moves.specs.declared.place.InService.TheVariants as step
-use Rattle.exec_moves.specs.declared.place.Place.TheVariants as at
-use Rattle.exec_moves.specs.declared.place.Reaping.TheVariants as reaping
+use Rattle.exec_moves.specs.{declared.place.{AfterPermit.AfterPermit, InService.{InService, InService as step}, Place.Place, Service.Service, Reaping.Reaping as reaping}, Claim.latched, Move.{move_service, move_submit}, Serve.{after_latch, first_to_fire, unlatched}, State.{Desk, Things, gate_of, no_word, word_of}, Submit.{Due, Due.{AtGate, Cancels, Ends, Enrols, Expires, Flushes, Stages}, first_due, granted_at, next_gate, or_else, stage_next, staging_due}, Thing.{ring_of, with_ring}}
 use Rattle.exec_settled.proofs.{HandsGate.{stays_early, unpast}, HandsPlain.{HandsBy, Plain, kept_word, own_out, plain, plain_hands, plain_signals}, HandsServe.{AreOfGate, AreUndated, HandsFor, ends, enrols, enters, expires, moves_on, passes_on, past_in_if, past_permit, raises_one, reaps, tries}}
+use Rattle.exec_moves.specs.declared.place.Place.TheVariants as at
 
 -- what is to be staged, or that there is nothing
 abbrev is_staging : Due → Bool

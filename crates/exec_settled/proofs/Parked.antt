@@ -1,23 +1,12 @@
 -- Who sleeps has nothing to do, or somebody wakes it next: by what each state has, whatever others do.
-use Rattle.std.proofs.Common.{◌≡◌, ◌≢◌, ℕ, suc, ◌==◌, ◌&&◌, ◌||◌, Bool, true, false, not, List, [], ◌∷◌, Option, Some, None, ◌∙◌, refl, sym, ap, subst, arith, inl, inr, get_or, length, unwrap_or, if◌then◌else◌}
-use Rattle.std.proofs.lemmas.Bool.{true≢false, false≢true, and_parts, cases_Bool, cases_lt, eq-eqb, eqb-true, false_from_ne_true, not-true, or_cases}
-use Rattle.std.proofs.lemmas.{List.get_or_past, Option.none-some}
-use Rattle.std.specs.Prelude.{nat_lt, slice_get}
-use Rattle.std.specs.List.{list_any}
-use Rattle.exec_machine.specs.{declared.{config.Configuration.Configuration, state.{Forwarding.Forwarding, MailMessage.MailMessage, Request.Request, RequestPhase.RequestPhase, TaskPhase.TaskPhase}}, Progress.{has_to_close, is_request_unfinished, is_runnable}, Ranges.ring_size, Same.{is_none, is_number, same_message}, Tests.{has_ended, is_closing, is_done, is_empty, is_flying, is_gated, is_landed, is_open, is_queued, is_ready, is_resolved, is_settled, is_staged}, World.{Common, Open, Own as Books, Task, no_request, open_of, own_of, request_of, seat_of, sleeper_of, task_of}}
-use Rattle.exec_machine.specs.declared.state.Forwarding.TheVariants as forwarding
-use Rattle.exec_machine.specs.declared.state.MailMessage.TheVariants as message
-use Rattle.exec_machine.specs.declared.state.Next.TheVariants as next
-use Rattle.exec_machine.specs.declared.state.RequestPhase.TheVariants as phase
-use Rattle.exec_machine.specs.declared.state.Waiting.TheVariants as waiting
+use Rattle.std.{proofs.{Common.{◌≡◌, ◌≢◌, ℕ, suc, ◌==◌, ◌&&◌, ◌||◌, Bool, true, false, not, List, [], ◌∷◌, Option, Some, None, ◌∙◌, refl, sym, ap, subst, arith, inl, inr, get_or, length, unwrap_or, if◌then◌else◌}, lemmas.{Bool.{true≢false, false≢true, and_parts, cases_Bool, cases_lt, eq-eqb, eqb-true, false_from_ne_true, not-true, or_cases}, List.get_or_past, Option.none-some}}, specs.{Prelude.{nat_lt, slice_get}, List.list_any}}
+use Rattle.exec_machine.specs.{declared.{config.Configuration.Configuration, state.{Forwarding.{Forwarding, Forwarding as forwarding}, MailMessage.{MailMessage, MailMessage as message}, Request.Request, RequestPhase.{RequestPhase, RequestPhase as phase}, TaskPhase.TaskPhase, Waiting.Waiting as waiting}}, Progress.{has_to_close, is_request_unfinished, is_runnable}, Ranges.ring_size, Same.{is_none, is_number, same_message}, Tests.{has_ended, is_closing, is_done, is_empty, is_flying, is_gated, is_landed, is_open, is_queued, is_ready, is_resolved, is_settled, is_staged}, World.{Common, Open, Own as Books, Task, no_request, open_of, own_of, request_of, seat_of, sleeper_of, task_of}}
 use Rattle.exec_outcomes.specs.Accounts.{is_durable}
-use Rattle.exec_books.proofs.MinePhases.{gated_open}
+use Rattle.exec_books.{proofs.MinePhases.gated_open, specs.{Booked.{IsBooked, IsUnderWay}, Listed.is_in}}
 use Rattle.exec_moves.specs.{declared.{handing.{AfterCallbacks.AfterCallbacks, Heard.Heard}, place.{InCallbacks.InCallbacks, Place.Place}}, Plays.{Playing, desk_of, first_desk}, Poll.is_noted, Seen.next_at, State.{gate_of, inbox_of, no_queue, queue_of}, Told.has_number}
-use Rattle.exec_books.specs.{Booked.{IsBooked, IsUnderWay}, Listed.is_in}
-use Rattle.exec_rest.specs.{AtRest.{AreBare, AreFresh, IsPlaced, is_idle, is_unnoted}, Places.is_abed, Posted.IsPosted, Rested.{IsRestful, has_bit, is_in_pool, is_latched, place_at, sleeps}}
-use Rattle.exec_rest.proofs.Rest.{Abed, abed, none_or_some}
-use Rattle.exec_settled.specs.{Awaited.{IsAwaited, IsToBeWoken, IsToHear}, Given.{IsGiven, WaitsFor, gives_up, in_line}, Parked.{HasNoneInHand, HasNothingToDo, IsBeingWoken, IsHeldUp, IsParked, IsUp, NobodySleepsOnWork, NoneIsForgotten, WaitsForRequest}, Permits.{IsPermitted, is_past}, Settled.{HasSubmitted, HasTold, IsSettled}}
-use Rattle.exec_settled.proofs.{PermittedSteps.unresolved_if, Resting.{abed_past, cancels_told, entered, none_comes, none_fires, submitted, tests, told_asleep}, Undone.{eight, enroll_case}}
+use Rattle.exec_rest.{specs.{AtRest.{AreBare, AreFresh, IsPlaced, is_idle, is_unnoted}, Places.is_abed, Posted.IsPosted, Rested.{IsRestful, has_bit, is_in_pool, is_latched, place_at, sleeps}}, proofs.Rest.{Abed, abed, none_or_some}}
+use Rattle.exec_settled.{specs.{Awaited.{IsAwaited, IsToBeWoken, IsToHear}, Given.{IsGiven, WaitsFor, gives_up, in_line}, Parked.{HasNoneInHand, HasNothingToDo, IsBeingWoken, IsHeldUp, IsParked, IsUp, NobodySleepsOnWork, NoneIsForgotten, WaitsForRequest}, Permits.{IsPermitted, is_past}, Settled.{HasSubmitted, HasTold, IsSettled}}, proofs.{PermittedSteps.unresolved_if, Resting.{abed_past, cancels_told, entered, none_comes, none_fires, submitted, tests, told_asleep}, Undone.{eight, enroll_case}}}
+use Rattle.exec_machine.specs.declared.state.Next.TheVariants as next
 
 -- a task that is to be polled, or was woken in a poll
 pub runs_on : (p : TaskPhase) → (is_ready p || is_noted p) ≡ true → is_runnable p ≡ true

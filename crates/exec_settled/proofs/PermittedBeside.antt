@@ -1,15 +1,12 @@
 -- A step of a caller, the clock, the kernel or a peer leaves no permit with who sleeps: it leaves gates, opens and the places of workers, and
 -- what waits for a permit or is over; and it takes no latch out.
-use Rattle.std.proofs.Common.{◌≡◌, ℕ, zero, suc, Bool, true, false, List, [], ◌∷◌, Option, Some, None, get_or, set, refl, sym, subst, arith}
-use Rattle.std.proofs.lemmas.Bool.{false≢true}
+use Rattle.std.proofs.{Common.{◌≡◌, ℕ, zero, suc, Bool, true, false, List, [], ◌∷◌, Option, Some, None, get_or, set, refl, sym, subst, arith}, lemmas.Bool.false≢true}
 use Rattle.exec_outcomes.specs.declared.outcome.OpResult.{OpResult}
-use Rattle.exec_machine.specs.{declared.{config.Configuration.Configuration, event.Event.Event, state.{Request.Request}, step.Action.Action}, Callers.{after_going_on, after_wake_by_call}, Choice.Choice, Tests.{is_gated}, World.{Common, no_request, request_of, task_of}}
+use Rattle.exec_machine.specs.{declared.{config.Configuration.Configuration, event.Event.Event, state.Request.Request, step.Action.{Action, Action as action}}, Callers.{after_going_on, after_wake_by_call}, Choice.Choice, Tests.is_gated, World.{Common, no_request, request_of, task_of}}
+use Rattle.exec_moves.specs.{declared.handing.CallPlace.CallPlace, Call.{CallDesk, no_call}, MoveOfCaller.{call_on, call_wake}, Plays.{Playing, by_action, caller_of}, State.{Things, word_of}}
+use Rattle.exec_rest.{specs.Rested.{IsLaidOut, is_latched, place_at}, proofs.{CallMoves.{call_heeds, wake_heeds}, Others.{beside, is_other, latch_then}}}
+use Rattle.exec_settled.specs.{Given.gives_up, Permits.IsPermitted}
 use Rattle.exec_machine.specs.declared.state.RequestPhase.TheVariants as phase
-use Rattle.exec_machine.specs.declared.step.Action.TheVariants as action
-use Rattle.exec_moves.specs.{declared.handing.{CallPlace.CallPlace}, Call.{CallDesk, no_call}, MoveOfCaller.{call_on, call_wake}, Plays.{Playing, by_action, caller_of}, State.{Things, word_of}}
-use Rattle.exec_rest.specs.Rested.{IsLaidOut, is_latched, place_at}
-use Rattle.exec_rest.proofs.{CallMoves.{call_heeds, wake_heeds}, Others.{beside, is_other, latch_then}}
-use Rattle.exec_settled.specs.{Given.{gives_up}, Permits.{IsPermitted}}
 
 -- ONE REQUEST
 

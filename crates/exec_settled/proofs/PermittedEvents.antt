@@ -1,11 +1,7 @@
 -- What an event of a worker leaves of each request, seat and open, as far as permits go.
-use Rattle.std.proofs.Common.{◌≡◌, ℕ, zero, suc, ◌<◌, ◌==◌, Bool, true, false, List, [], ◌∷◌, length, map, Option, Some, refl, sym, ap, ◌∙◌, subst, inl, inr, get_or, set, if◌then◌else◌, arith}
-use Rattle.std.proofs.lemmas.Bool.{cases_Bool, false≢true}
-use Rattle.std.proofs.lemmas.List.{get_or_append_left, length-set}
+use Rattle.std.proofs.{Common.{◌≡◌, ℕ, zero, suc, ◌<◌, ◌==◌, Bool, true, false, List, [], ◌∷◌, length, map, Option, Some, refl, sym, ap, ◌∙◌, subst, inl, inr, get_or, set, if◌then◌else◌, arith}, lemmas.{Bool.{cases_Bool, false≢true}, List.{get_or_append_left, length-set}}}
 use Rattle.exec_outcomes.specs.{declared.outcome.{OpResult.OpResult, Outcome.Outcome}, Outcomes.refuses_hint}
-use Rattle.exec_machine.specs.declared.{config.Configuration.Configuration, event.Event.Event, state.{MailMessage.MailMessage, Next.Next, Operation.Operation, Request.Request}}
-use Rattle.exec_machine.specs.{After.{common_after}, Choice.{Choice, Payer, Choice.{Plain, Pays, Posts}}, Closing.{after_clear, after_next, ends_by_clear, with_cleared}, Deadlines.{enrolled, expired}, Mail.{after_apply, after_message, after_post, after_sending}, Requests.{common_after_refusal, dropped, flown, granted, judged_of, opens_after_end, reaped}, Tasks.{after_over, after_payment, after_pend, after_word, pended_phase, requests_after_drops}, Tests.{is_gated, set_task}, World.{Common, Own as Books, no_request, request_of, task_of}}
-use Rattle.exec_machine.specs.declared.event.Event.TheVariants as event
+use Rattle.exec_machine.specs.{declared.{config.Configuration.Configuration, event.Event.{Event, Event as event}, state.{MailMessage.MailMessage, Next.Next, Operation.Operation, Request.Request}}, After.common_after, Choice.{Choice, Payer, Choice.{Plain, Pays, Posts}}, Closing.{after_clear, after_next, ends_by_clear, with_cleared}, Deadlines.{enrolled, expired}, Mail.{after_apply, after_message, after_post, after_sending}, Requests.{common_after_refusal, dropped, flown, granted, judged_of, opens_after_end, reaped}, Tasks.{after_over, after_payment, after_pend, after_word, pended_phase, requests_after_drops}, Tests.{is_gated, set_task}, World.{Common, Own as Books, no_request, request_of, task_of}}
 
 -- ONE REQUEST
 

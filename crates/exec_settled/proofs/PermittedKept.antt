@@ -1,14 +1,10 @@
 -- No step leaves a permit with who sleeps.
-use Rattle.std.proofs.Common.{◌≡◌, ℕ, ◌<◌, Bool, true, false, length, refl, sym, ap, ◌∙◌, subst, if◌then◌else◌, arith}
-use Rattle.std.proofs.lemmas.{Bool.{true≢false, and_parts, cases_lt, not-true}, List.get_or_past}
-use Rattle.exec_machine.specs.{declared.{config.Configuration.Configuration, step.Action.Action}, Callers.{is_enabled}, Examples.refuses, Progress.Plan, Run.Follows, World.{Common, Own as Books, own_of}}
-use Rattle.exec_machine.specs.declared.step.Action.TheVariants as action
+use Rattle.std.proofs.{Common.{◌≡◌, ℕ, ◌<◌, Bool, true, false, length, refl, sym, ap, ◌∙◌, subst, if◌then◌else◌, arith}, lemmas.{Bool.{true≢false, and_parts, cases_lt, not-true}, List.get_or_past}}
+use Rattle.exec_machine.specs.{declared.{config.Configuration.Configuration, step.Action.{Action, Action as action}}, Callers.is_enabled, Examples.refuses, Progress.Plan, Run.Follows, World.{Common, Own as Books, own_of}}
 use Rattle.exec_moves.specs.{declared.place.{InPoll.InPoll, Place.Place}, Move.{move, move_at}, Plays.{Playing, by_action, by_step, desk_of, first_playing}, State.{Desk, Moved, Things}}
 use Rattle.exec_books.specs.Booked.{IsBooked}
-use Rattle.exec_rest.specs.AtRest.{IsPlaced}
-use Rattle.exec_rest.proofs.{Frames.{desk_other, desk_own}, Heeds.Heeds, Step.heeds_at}
-use Rattle.exec_settled.specs.{Given.IsGiven, Permits.{IsPermitted, is_past}}
-use Rattle.exec_settled.proofs.{HandsAt.hands_at, PermittedBeside.permitted_aside, PermittedEvents.leaves, PermittedSteps.permitted_by_move}
+use Rattle.exec_rest.{specs.AtRest.IsPlaced, proofs.{Frames.{desk_other, desk_own}, Heeds.Heeds, Step.heeds_at}}
+use Rattle.exec_settled.{specs.{Given.IsGiven, Permits.{IsPermitted, is_past}}, proofs.{HandsAt.hands_at, PermittedBeside.permitted_aside, PermittedEvents.leaves, PermittedSteps.permitted_by_move}}
 
 -- Nobody stands at a gate, and there is no request.
 pub first_permitted : (p : Plan) → IsPermitted p.config (first_playing p)

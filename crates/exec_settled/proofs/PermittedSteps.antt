@@ -1,15 +1,11 @@
 -- A step of a worker leaves no permit with who sleeps: by what its move does, and what its event leaves.
-use Rattle.std.proofs.Common.{◌≡◌, ◌≢◌, ℕ, ◌<◌, ◌≤◌, Bool, true, false, ◌&&◌, ◌||◌, List, [], ◌∷◌, ◌++◌, length, Some, refl, sym, ap, ◌∙◌, subst, inl, inr, arith, if◌then◌else◌, unwrap_or}
-use Rattle.std.proofs.lemmas.{Bool.{true≢false, false≢true, and_parts, cases_Bool, cases_eq, cases_lt, or_cases, or_left, or_right}, List.{get_or_past, length-append}, Option.none-some}
-use Rattle.std.specs.Prelude.{◌⊎◌, drop, not, slice_get}
+use Rattle.std.{proofs.{Common.{◌≡◌, ◌≢◌, ℕ, ◌<◌, ◌≤◌, Bool, true, false, ◌&&◌, ◌||◌, List, [], ◌∷◌, ◌++◌, length, Some, refl, sym, ap, ◌∙◌, subst, inl, inr, arith, if◌then◌else◌, unwrap_or}, lemmas.{Bool.{true≢false, false≢true, and_parts, cases_Bool, cases_eq, cases_lt, or_cases, or_left, or_right}, List.{get_or_past, length-append}, Option.none-some}}, specs.Prelude.{◌⊎◌, drop, not, slice_get}}
 use Rattle.exec_outcomes.specs.Accounts.{is_durable}
-use Rattle.exec_machine.specs.{declared.{config.Configuration.Configuration}, Tests.{is_gated, is_resolved}, World.{Common, open_of, request_of}}
+use Rattle.exec_machine.specs.{declared.config.Configuration.Configuration, Tests.{is_gated, is_resolved}, World.{Common, open_of, request_of}}
 use Rattle.exec_moves.specs.{declared.place.{InPoll.InPoll, Place.Place}, Plays.{Playing, by_move, desk_of}, State.{Desk, Moved, Things, gate_of}}
-use Rattle.exec_books.specs.Booked.{IsBooked}
+use Rattle.exec_books.{specs.Booked.IsBooked, proofs.MinePhases.gated_open}
 use Rattle.exec_rest.specs.Rested.{IsLaidOut, is_latched, place_at}
-use Rattle.exec_settled.specs.{Given.{IsGiven, gives_up, in_line, passes_at}, Permits.{IsHanded, IsPassing, IsPermitted, hands_to, is_past}}
-use Rattle.exec_settled.proofs.{Hands.{Hands, JoinsGate}, PermittedEvents.Leaves}
-use Rattle.exec_books.proofs.MinePhases.{gated_open}
+use Rattle.exec_settled.{specs.{Given.{IsGiven, gives_up, in_line, passes_at}, Permits.{IsHanded, IsPassing, IsPermitted, hands_to, is_past}}, proofs.{Hands.{Hands, JoinsGate}, PermittedEvents.Leaves}}
 
 -- its worker is told of a permit of this open, or looks at the gate in a service that is ahead
 abbrev pub IsTold : Configuration → Playing → ℕ → ℕ → Type 0

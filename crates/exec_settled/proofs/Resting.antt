@@ -1,17 +1,10 @@
 -- What is left of each worker, request and message where all workers sleep or have ended.
-use Rattle.std.proofs.Common.{◌≡◌, ◌⊎◌, ℕ, zero, suc, ◌<◌, ◌≤◌, ◌==◌, ◌&&◌, ◌||◌, Bool, true, false, not, List, [], ◌∷◌, length, get_or, Some, None, cond, if◌then◌else◌, ◌∙◌, refl, sym, ap, subst, arith, inl, inr}
-use Rattle.std.proofs.lemmas.Bool.{true≢false, false≢true, cases_lt, eq-eqb, or_left, or_right, not-true}
-use Rattle.std.proofs.lemmas.List.{get_or_past, Sums.sum_by-cons}
-use Rattle.std.specs.Prelude.{nat_le}
-use Rattle.std.specs.List.{list_any}
+use Rattle.std.{proofs.{Common.{◌≡◌, ◌⊎◌, ℕ, zero, suc, ◌<◌, ◌≤◌, ◌==◌, ◌&&◌, ◌||◌, Bool, true, false, not, List, [], ◌∷◌, length, get_or, Some, None, cond, if◌then◌else◌, ◌∙◌, refl, sym, ap, subst, arith, inl, inr}, lemmas.{Bool.{true≢false, false≢true, cases_lt, eq-eqb, or_left, or_right, not-true}, List.{get_or_past, Sums.sum_by-cons}}}, specs.{Prelude.nat_le, List.list_any}}
 use Rattle.exec_machine.specs.{declared.{config.Configuration.Configuration, state.{Request.Request, RequestPhase.RequestPhase}}, Deadlines.{earlier, first_timer, first_until, is_after, is_due}, Progress.{all_asleep, is_cancel_untold, is_sleeper_unfinished}, Tests.{has_ended, is_asleep, is_gated, is_in_flight, is_landed, is_open, is_queued, is_resolved, is_staged}, World.{Common, World, no_request, own_of, request_of, seat_of, sleeper_of}}
 use Rattle.exec_moves.specs.{declared.{handing.{AfterCallbacks.AfterCallbacks, Heard.Heard}, place.{InCallbacks.InCallbacks, InPoll.InPoll, Place.Place}}, Plays.{Playing, desk_of, first_desk}, State.Desk}
-use Rattle.exec_books.specs.Listed.{is_in}
-use Rattle.exec_settled.proofs.Undone.{after_earlier, first_ahead, none_due, none_slept, false_from_ne_true}
-use Rattle.exec_books.specs.Booked.{IsBooked, unreleased_of}
-use Rattle.exec_rest.specs.{AtRest.{IsPlaced, is_end, is_idle, stays_closing}, Places.is_abed, Posted.has_tested, Rested.{IsRestful, place_at, sleeps}}
-use Rattle.exec_rest.proofs.Rest.{down}
-use Rattle.exec_settled.specs.{Given.{passes_at}, Permits.{hands_to, is_past}, Settled.{HasSubmitted, HasTold, HaveLetGo, IsSettled, ends_ring_wait, has_submitted, has_told, waits_on_word}}
+use Rattle.exec_books.specs.{Listed.is_in, Booked.{IsBooked, unreleased_of}}
+use Rattle.exec_settled.{proofs.Undone.{after_earlier, first_ahead, none_due, none_slept, false_from_ne_true}, specs.{Given.passes_at, Permits.{hands_to, is_past}, Settled.{HasSubmitted, HasTold, HaveLetGo, IsSettled, ends_ring_wait, has_submitted, has_told, waits_on_word}}}
+use Rattle.exec_rest.{specs.{AtRest.{IsPlaced, is_end, is_idle, stays_closing}, Places.is_abed, Posted.has_tested, Rested.{IsRestful, place_at, sleeps}}, proofs.Rest.down}
 
 -- PLACES OF SLEEP, AND OF THE END
 

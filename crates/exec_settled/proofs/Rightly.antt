@@ -1,21 +1,10 @@
 -- Where all workers sleep nothing is unfinished.
-use Rattle.std.proofs.Common.{◌≡◌, ℕ, ◌<◌, ◌==◌, ◌&&◌, ◌||◌, true, false, not, length, None, ◌∙◌, refl, sym, ap, subst, arith, inl, inr}
-use Rattle.std.proofs.lemmas.Bool.{true≢false, false≢true, and_parts, cases_Bool}
-use Rattle.std.proofs.lemmas.{List.get_or_past, Option.{get_or_from_slice_get, slice_get_cases}}
-use Rattle.std.specs.Prelude.{nat_lt}
-use Rattle.std.specs.List.{list_all, list_any}
-use Rattle.exec_machine.specs.{declared.{config.Configuration.Configuration, state.{Forwarding.Forwarding, MailMessage.MailMessage, Request.Request, Waiting.Waiting, WorkerPhase.WorkerPhase}}, Deadlines.is_due, Progress.{IsRightlyAsleep, NothingUnfinished, all_asleep, has_come, has_to_close, is_request_unfinished, is_runnable, is_task_unfinished, sleeps_for_nothing}, Ranges.ring_size, Same.{is_none, is_number, same_message}, Tests.{has_ended, is_awake, is_closing, is_done, is_open, is_resolved}, World.{Common, Task, no_task, open_of, own_of, request_of, seat_of, sleeper_of, task_of}}
-use Rattle.exec_machine.specs.declared.state.Forwarding.TheVariants as forwarding
-use Rattle.exec_machine.specs.declared.state.MailMessage.TheVariants as message
-use Rattle.exec_machine.specs.declared.state.Waiting.TheVariants as waiting
+use Rattle.std.{proofs.{Common.{◌≡◌, ℕ, ◌<◌, ◌==◌, ◌&&◌, ◌||◌, true, false, not, length, None, ◌∙◌, refl, sym, ap, subst, arith, inl, inr}, lemmas.{Bool.{true≢false, false≢true, and_parts, cases_Bool}, List.get_or_past, Option.{get_or_from_slice_get, slice_get_cases}}}, specs.{Prelude.nat_lt, List.{list_all, list_any}}}
+use Rattle.exec_machine.specs.{declared.{config.Configuration.Configuration, state.{Forwarding.{Forwarding, Forwarding as forwarding}, MailMessage.{MailMessage, MailMessage as message}, Request.Request, Waiting.{Waiting, Waiting as waiting}, WorkerPhase.WorkerPhase}}, Deadlines.is_due, Progress.{IsRightlyAsleep, NothingUnfinished, all_asleep, has_come, has_to_close, is_request_unfinished, is_runnable, is_task_unfinished, sleeps_for_nothing}, Ranges.ring_size, Same.{is_none, is_number, same_message}, Tests.{has_ended, is_awake, is_closing, is_done, is_open, is_resolved}, World.{Common, Task, no_task, open_of, own_of, request_of, seat_of, sleeper_of, task_of}}
 use Rattle.exec_moves.specs.{declared.{handing.Heard.Heard, place.Place.Place}, Plays.{Playing, desk_of}}
-use Rattle.exec_settled.proofs.Undone.{eight, not_all, false_from_ne_true}
+use Rattle.exec_settled.{proofs.{Undone.{eight, not_all, false_from_ne_true}, Parked.{need_not_close, no_number, request_done, runs_on}, Resting.{cancels_done, nobody_hands, nobody_looks, nobody_passes, nobody_wakes, over_of, over_phase, sleeper_done, told}}, specs.{Awaited.{IsAwaited, IsToBeWoken, IsToHear}, Given.{IsGiven, WaitsFor}, Parked.{IsBeingWoken, IsParked}, Permits.IsPermitted, Settled.IsSettled}}
 use Rattle.exec_books.specs.Booked.{IsBooked, IsUnderWay}
-use Rattle.exec_rest.specs.{AtRest.{IsAtRest, IsPlaced, RestsWell, stays_closing}, Rested.{IsRestful, place_at, sleeps}}
-use Rattle.exec_rest.proofs.Rest.{down, unraised, unsignalled}
-use Rattle.exec_settled.specs.{Awaited.{IsAwaited, IsToBeWoken, IsToHear}, Given.{IsGiven, WaitsFor}, Parked.{IsBeingWoken, IsParked}, Permits.IsPermitted, Settled.{IsSettled}}
-use Rattle.exec_rest.specs.AtRest.{stays_closing}
-use Rattle.exec_settled.proofs.{Parked.{need_not_close, no_number, request_done, runs_on}, Resting.{cancels_done, nobody_hands, nobody_looks, nobody_passes, nobody_wakes, over_of, over_phase, sleeper_done, told}}
+use Rattle.exec_rest.{specs.{AtRest.{IsAtRest, IsPlaced, RestsWell, stays_closing}, Rested.{IsRestful, place_at, sleeps}}, proofs.Rest.{down, unraised, unsignalled}}
 
 waits_there : (p : Place) → stays_closing p ≡ true → stays_closing p ≡ true
 waits_there = grind (arith, false≢true)

@@ -1,13 +1,9 @@
 -- What a worker has done before it sleeps stays done in each step.
-use Rattle.std.proofs.Common.{◌≡◌, true, refl, sym, ◌∙◌, arith}
-use Rattle.std.proofs.lemmas.Bool.{true≢false}
+use Rattle.std.proofs.{Common.{◌≡◌, true, refl, sym, ◌∙◌, arith}, lemmas.Bool.true≢false}
 use Rattle.exec_machine.specs.{declared.{config.Configuration.Configuration, step.Action.Action}, Callers.is_enabled, Progress.Plan, Run.Follows}
 use Rattle.exec_moves.specs.Plays.{Playing, by_action, by_step, first_playing}
-use Rattle.exec_rest.specs.{AtRest.{IsPlaced, stays_closing}, Places.is_to_sleep_on_ring}
-use Rattle.exec_rest.proofs.First.{awake_first, not_there}
-use Rattle.exec_settled.specs.{Given.IsGiven, Settled.{IsSettled, has_submitted, has_told, waits_on_word}}
-use Rattle.exec_settled.proofs.SettledOthers.{caller_settles, other_settles}
-use Rattle.exec_settled.proofs.SettledStep.{work_settles}
+use Rattle.exec_rest.{specs.{AtRest.{IsPlaced, stays_closing}, Places.is_to_sleep_on_ring}, proofs.First.{awake_first, not_there}}
+use Rattle.exec_settled.{specs.{Given.IsGiven, Settled.{IsSettled, has_submitted, has_told, waits_on_word}}, proofs.{SettledOthers.{caller_settles, other_settles}, SettledStep.work_settles}}
 
 pub first_settled : (p : Plan) → IsSettled p.config (first_playing p)
 first_settled p =

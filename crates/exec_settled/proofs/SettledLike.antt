@@ -1,16 +1,9 @@
 -- Requests that are alike for one worker: those of its own are over as before, and none more is staged. What events leave so.
-use Rattle.std.proofs.Common.{◌≡◌, ℕ, suc, ◌<◌, ◌≤◌, ◌==◌, Bool, true, false, ◌&&◌, ◌||◌, List, [], ◌∷◌, length, map, get_or, set, Option, Some, None, refl, sym, ap, ◌∙◌, subst, arith}
-use Rattle.std.proofs.lemmas.Bool.{false≢true, and_parts, eqb-true, ltb-true, ltb-false, ne_eqb}
-use Rattle.std.proofs.lemmas.List.{get_or_past}
-use Rattle.std.specs.Prelude.{nat_lt, not}
-use Rattle.std.specs.List.{list_any}
-use Rattle.exec_machine.specs.{declared.{config.Configuration.Configuration, event.Event.Event, state.{Next.Next, Request.Request, RequestPhase.RequestPhase}}, After.common_after, Choice.{Choice, Payer, Choice.{Passes, Pays, Plain, Posts}, Payer.{ByAct, ByCall, ByRequest, BySleeper, ByStop}}, Closing.after_next, Requests.flown, Tasks.after_payment, Tests.{is_flying, is_resolved, is_staged}, World.{Common, Own as Books, no_request, request_of}}
-use Rattle.exec_machine.specs.declared.event.Event.TheVariants as event
+use Rattle.std.{proofs.{Common.{◌≡◌, ℕ, suc, ◌<◌, ◌≤◌, ◌==◌, Bool, true, false, ◌&&◌, ◌||◌, List, [], ◌∷◌, length, map, get_or, set, Option, Some, None, refl, sym, ap, ◌∙◌, subst, arith}, lemmas.{Bool.{false≢true, and_parts, eqb-true, ltb-true, ltb-false, ne_eqb}, List.get_or_past}}, specs.{Prelude.{nat_lt, not}, List.list_any}}
+use Rattle.exec_machine.specs.{declared.{config.Configuration.Configuration, event.Event.{Event, Event as event}, state.{Next.Next, Request.Request, RequestPhase.RequestPhase}}, After.common_after, Choice.{Choice, Payer, Choice.{Passes, Pays, Plain, Posts}, Payer.{ByAct, ByCall, ByRequest, BySleeper, ByStop}}, Closing.after_next, Requests.flown, Tasks.after_payment, Tests.{is_flying, is_resolved, is_staged}, World.{Common, Own as Books, no_request, request_of}}
 use Rattle.exec_moves.specs.Callback.{has_requests}
-use Rattle.exec_books.proofs.Own.{IsOwn}
-use Rattle.exec_settled.specs.Settled.{HasEntered}
-use Rattle.exec_books.proofs.Spares.{new_one, same_worker, spares}
-use Rattle.exec_settled.proofs.SettledPlaces.{is_plain}
+use Rattle.exec_books.proofs.{Own.IsOwn, Spares.{new_one, same_worker, spares}}
+use Rattle.exec_settled.{specs.Settled.HasEntered, proofs.SettledPlaces.is_plain}
 use Rattle.exec_rest.proofs.Others.{map_like, set_like}
 
 -- whether some element passes a test, where each passes it as before, and none past the end does

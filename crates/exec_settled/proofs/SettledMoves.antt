@@ -1,36 +1,11 @@
 -- What each move of a worker does as far as what it has done before it sleeps goes.
-use Rattle.std.proofs.Common.{◌≡◌, ℕ, ◌-◌, ◌==◌, Bool, true, false, ◌&&◌, ◌||◌, [], Option, Some, None, refl, sym, ap, ◌∙◌, if◌then◌else◌}
-use Rattle.std.proofs.lemmas.Bool.{false≢true, or_left, or_parts}
-use Rattle.std.specs.Prelude.{drop, nat_le, not}
+use Rattle.std.{proofs.{Common.{◌≡◌, ℕ, ◌-◌, ◌==◌, Bool, true, false, ◌&&◌, ◌||◌, [], Option, Some, None, refl, sym, ap, ◌∙◌, if◌then◌else◌}, lemmas.Bool.{false≢true, or_left, or_parts}}, specs.Prelude.{drop, nat_le, not}}
 use Rattle.exec_words.specs.{Queue.head_of, Word.asks_signal}
 use Rattle.exec_machine.specs.{declared.{config.Configuration.Configuration, event.Event.{Event, TheVariants.{Enter, Release, Rouse, Sleep, Turn, Wake}}}, After.own_after, Choice.{Choice, Choice.Plain}, Ranges.ring_size, Tests.{is_awake, is_done, is_empty, is_idle}, World.{Common, Task, request_of, seat_of, sleeper_of, task_of, Own as Books}}
-use Rattle.exec_moves.specs.declared.handing.{AfterCallbacks.AfterCallbacks, AfterKick.AfterKick, AfterPush.AfterPush, AfterSignal.AfterSignal, Heard.Heard, InGlobal.InGlobal, InKick.InKick, InPush.InPush, InSignal.InSignal}
-use Rattle.exec_moves.specs.declared.idling.{InRingWait.InRingWait}
-use Rattle.exec_moves.specs.declared.place.{Found.Found, InCallbacks.InCallbacks, Place.Place}
-use Rattle.exec_moves.specs.{Callback.{Item, Item.{Answers, Completes, LetsGo, Nothing, Releases, Wakes}, after_callbacks, flagged_by, has_callbacks, has_requests, is_full, is_of_pool, item_next, next_callback, payer_heard, payer_of, ring_wait, tells_waiter, woken_by}, Global.{empty_handed, has_any}, Load.{has_submissions, is_ready, leaves_for_turn, test_for_work}, Move.{move_callbacks, move_global, move_item, move_kick, move_push, move_signal}, Parts.{after_kick, after_push, after_signal, has_others}, Pop.same_head, State.{Desk, Moved, Own, Things, queue_of, turns, word_of}}
-use Rattle.exec_moves.specs.declared.handing.AfterCallbacks.TheVariants as after
-use Rattle.exec_moves.specs.declared.handing.AfterClaim.TheVariants as claim
-use Rattle.exec_moves.specs.declared.handing.AfterKick.TheVariants as kicks
-use Rattle.exec_moves.specs.declared.handing.AfterPush.TheVariants as pushes
-use Rattle.exec_moves.specs.declared.handing.AfterSignal.TheVariants as signal
-use Rattle.exec_moves.specs.declared.handing.Heard.TheVariants as heard
-use Rattle.exec_moves.specs.declared.handing.InGlobal.TheVariants as global
-use Rattle.exec_moves.specs.declared.handing.InKick.TheVariants as kick
-use Rattle.exec_moves.specs.declared.handing.InPush.TheVariants as push
-use Rattle.exec_moves.specs.declared.handing.InSignal.TheVariants as signals
+use Rattle.exec_moves.specs.{declared.{handing.{AfterCallbacks.{AfterCallbacks, AfterCallbacks as after}, AfterKick.{AfterKick, AfterKick as kicks}, AfterPush.{AfterPush, AfterPush as pushes}, AfterSignal.{AfterSignal, AfterSignal as signal}, Heard.{Heard, Heard as heard}, InGlobal.{InGlobal, InGlobal as global}, InKick.{InKick, InKick as kick}, InPush.{InPush, InPush as push}, InSignal.{InSignal, InSignal as signals}, AfterClaim.AfterClaim as claim}, idling.{InRingWait.InRingWait, Stay.Stay as stay}, place.{Found.Found, InCallbacks.{InCallbacks, InCallbacks as callback}, Place.{Place, Place as at}, InClosing.InClosing as closing}}, Callback.{Item, Item.{Answers, Completes, LetsGo, Nothing, Releases, Wakes}, after_callbacks, flagged_by, has_callbacks, has_requests, is_full, is_of_pool, item_next, next_callback, payer_heard, payer_of, ring_wait, tells_waiter, woken_by}, Global.{empty_handed, has_any}, Load.{has_submissions, is_ready, leaves_for_turn, test_for_work}, Move.{move_callbacks, move_global, move_item, move_kick, move_push, move_signal}, Parts.{after_kick, after_push, after_signal, has_others}, Pop.same_head, State.{Desk, Moved, Own, Things, queue_of, turns, word_of}}
+use Rattle.exec_rest.{specs.{AtRest.{is_end, stays_closing}, Places.is_to_sleep_on_ring, Posted.has_tested}, proofs.{Away.calm_untested, Continuing.{calm_light, calm_after_fit, calm_after_leave, light_after_send, light_leaves_for_turn, light_next_pick, calm_to_queue}}}
+use Rattle.exec_settled.{specs.Settled.{HasSubmitted, HasTold, ends_ring_wait, has_submitted, has_tested_ring, has_told, waits_on_word}, proofs.{SettledParts.{is_shut, off_after_fit, off_after_leave, off_to_queue, off_light}, SettledPlaces.{OfBooks, closing_shut, deep_off, deep_untested, is_plain, is_sleep, kept, ring_off, sleep_deep, submitted_by, submitted_with, told_by, told_with, untold_off, word_tested}, SettledTest.Stays}}
 use Rattle.exec_moves.specs.declared.idling.InRingWait.TheVariants as ring
-use Rattle.exec_moves.specs.declared.idling.Stay.TheVariants as stay
-use Rattle.exec_moves.specs.declared.place.InCallbacks.TheVariants as callback
-use Rattle.exec_moves.specs.declared.place.InClosing.TheVariants as closing
-use Rattle.exec_moves.specs.declared.place.Place.TheVariants as at
-use Rattle.exec_rest.specs.{AtRest.is_end, Places.is_to_sleep_on_ring, Posted.has_tested}
-use Rattle.exec_rest.proofs.Away.{calm_untested}
-use Rattle.exec_rest.proofs.Continuing.{calm_light, calm_after_fit, calm_after_leave, light_after_send, light_leaves_for_turn, light_next_pick, calm_to_queue}
-use Rattle.exec_rest.specs.AtRest.{stays_closing}
-use Rattle.exec_settled.specs.Settled.{HasSubmitted, HasTold, ends_ring_wait, has_submitted, has_tested_ring, has_told, waits_on_word}
-use Rattle.exec_settled.proofs.SettledParts.{is_shut, off_after_fit, off_after_leave, off_to_queue, off_light}
-use Rattle.exec_settled.proofs.SettledPlaces.{OfBooks, closing_shut, deep_off, deep_untested, is_plain, is_sleep, kept, ring_off, sleep_deep, submitted_by, submitted_with, told_by, told_with, untold_off, word_tested}
-use Rattle.exec_settled.proofs.SettledTest.{Stays}
 
 module _ (c : Configuration) (i : ℕ) (me : Books) (s : Common) where
   -- what holds of the worker at its place

@@ -1,12 +1,9 @@
 -- What a worker has done before it sleeps, of one worker; and what leaves that so.
-use Rattle.std.proofs.Common.{◌≡◌, ℕ, zero, suc, true, false, List, [], ◌∷◌, ◌++◌, get_or, set, refl, sym, ap, ◌∙◌, arith}
-use Rattle.std.specs.Prelude.{not}
-use Rattle.exec_machine.specs.{declared.{config.Configuration.Configuration, event.Event.{Event}}, After.made_by, Tasks.new_own, Tests.is_awake, World.{Common, Own as Books, Seat, no_own, own_of, seat_of}}
+use Rattle.std.{proofs.Common.{◌≡◌, ℕ, zero, suc, true, false, List, [], ◌∷◌, ◌++◌, get_or, set, refl, sym, ap, ◌∙◌, arith}, specs.Prelude.not}
+use Rattle.exec_machine.specs.{declared.{config.Configuration.Configuration, event.Event.Event}, After.made_by, Tasks.new_own, Tests.is_awake, World.{Common, Own as Books, Seat, no_own, own_of, seat_of}}
 use Rattle.exec_moves.specs.{Callback.has_requests, Plays.{Playing, desk_of}, State.Desk}
 use Rattle.exec_rest.specs.{AtRest.stays_closing, Places.is_to_sleep_on_ring}
-use Rattle.exec_settled.specs.Settled.{HasEntered, HasSubmitted, HasTold, IsSettled, ends_ring_wait, has_submitted, has_told, waits_on_word}
-use Rattle.exec_settled.proofs.SettledLike.{AreAlike, entered_then, requests_then}
-use Rattle.exec_settled.proofs.SettledPlaces.{OfBooks, kept, listed, submitted_with, told_with}
+use Rattle.exec_settled.{specs.Settled.{HasEntered, HasSubmitted, HasTold, IsSettled, ends_ring_wait, has_submitted, has_told, waits_on_word}, proofs.{SettledLike.{AreAlike, entered_then, requests_then}, SettledPlaces.{OfBooks, kept, listed, submitted_with, told_with}}}
 
 pub record SettledOf (c : Configuration) (i : ℕ) (me : Books) (d : Desk) (s : Common) : Type 0 where
   pub told : has_told d.place ≡ true → HasTold me d

@@ -1,13 +1,9 @@
 -- The other moves that lead neither to a wait on the ring of a worker that closes nor to its end.
 use Rattle.std.proofs.Common.{◌≡◌, ℕ, ◌-◌, Bool, false, List, Option, arith}
-use Rattle.exec_words.specs.{Queue.{Queue, head_of, tail_of}}
-use Rattle.exec_machine.specs.{declared.{config.Configuration.Configuration}, World.{Common, Own as Books}}
-use Rattle.exec_moves.specs.declared.handing.{AfterPop.AfterPop, InPop.InPop}
-use Rattle.exec_moves.specs.declared.place.{InClosing.InClosing, InLoads.InLoads, InMail.InMail, InPick.InPick, InService.InService, Reaping.Reaping, Round.Round, Service.Service}
-use Rattle.exec_moves.specs.{Move.{move_closing, move_loads, move_mail, move_pick, move_pop, move_service, move_submit}, Pop.{load_pop_head, pops}, Serve.{end_service, first_to_fire, reap}, State.{Desk, Things, WakePoll}, Submit.{Due}}
-use Rattle.exec_moves.specs.declared.place.Place.TheVariants as at
-use Rattle.exec_settled.proofs.SettledParts.{is_shut, off_desk_if, off_after_service, off_light}
-use Rattle.exec_settled.proofs.SettledPolls.{IsOff, off_moved_if}
+use Rattle.exec_words.specs.Queue.{Queue, head_of, tail_of}
+use Rattle.exec_machine.specs.{declared.config.Configuration.Configuration, World.{Common, Own as Books}}
+use Rattle.exec_moves.specs.{declared.{handing.{AfterPop.AfterPop, InPop.InPop}, place.{InClosing.InClosing, InLoads.InLoads, InMail.InMail, InPick.InPick, InService.InService, Reaping.Reaping, Round.Round, Service.Service, Place.Place as at}}, Move.{move_closing, move_loads, move_mail, move_pick, move_pop, move_service, move_submit}, Pop.{load_pop_head, pops}, Serve.{end_service, first_to_fire, reap}, State.{Desk, Things, WakePoll}, Submit.Due}
+use Rattle.exec_settled.proofs.{SettledParts.{is_shut, off_desk_if, off_after_service, off_light}, SettledPolls.{IsOff, off_moved_if}}
 use Rattle.exec_rest.proofs.Continuing.{light_after_pop, light_after_empty_pop, light_judge_pop}
 
 -- EACH MOVE from another place that isn't the test, of a group by its place

@@ -1,22 +1,11 @@
 -- Steps of outside callers, of the clock, the kernel and the peers keep what each worker has done before it sleeps.
-use Rattle.std.proofs.Common.{◌≡◌, ℕ, ◌+◌, true, List, [], ◌∷◌, ◌++◌, get_or, refl, ap, arith}
-use Rattle.std.proofs.lemmas.Bool.{false≢true, and_parts}
-use Rattle.std.specs.Prelude.{not}
-use Rattle.exec_outcomes.specs.{Lawful.{is_lawful, window_of}}
-use Rattle.exec_machine.specs.{declared.{config.Configuration.Configuration, event.Event.Event, state.Rest.TheVariants.Awake, step.Action.Action}, Callers.{after_going_on, after_wake_by_call, is_enabled}, Choice.Choice, Deadlines.roused_at, Requests.{asked_of, cursor_of}, Tests.{is_awake, is_flying}, World.{Common, Seat, no_own, no_request, no_seat, own_of, request_of, seat_of, task_of}}
-use Rattle.exec_machine.specs.declared.state.RequestPhase.TheVariants as phase
-use Rattle.exec_machine.specs.declared.step.Action.TheVariants as action
+use Rattle.std.{proofs.{Common.{◌≡◌, ℕ, ◌+◌, true, List, [], ◌∷◌, ◌++◌, get_or, refl, ap, arith}, lemmas.Bool.{false≢true, and_parts}}, specs.Prelude.not}
+use Rattle.exec_outcomes.specs.Lawful.{is_lawful, window_of}
+use Rattle.exec_machine.specs.{declared.{config.Configuration.Configuration, event.Event.Event, state.Rest.TheVariants.Awake, step.Action.{Action, Action as action}}, Callers.{after_going_on, after_wake_by_call, is_enabled}, Choice.Choice, Deadlines.roused_at, Requests.{asked_of, cursor_of}, Tests.{is_awake, is_flying}, World.{Common, Seat, no_own, no_request, no_seat, own_of, request_of, seat_of, task_of}}
 use Rattle.exec_moves.specs.{MoveOfCaller.{call_on, call_wake}, Plays.{Playing, by_action, caller_of, desk_of}}
-use Rattle.exec_rest.specs.{AtRest.IsPlaced, Rested.place_at}
-use Rattle.exec_rest.proofs.CallHeeds.{set_at}
-use Rattle.exec_rest.proofs.CallSeats.{Seated, going_seated, wake_begun}
-use Rattle.exec_rest.proofs.Calls.{is_call}
-use Rattle.exec_rest.proofs.Others.{beside, is_other}
-use Rattle.exec_settled.specs.Settled.{IsSettled}
-use Rattle.exec_rest.proofs.Others.{map_like, set_like}
-use Rattle.exec_settled.proofs.SettledLike.{Alike, AreAlike, all_same, flying_live, itself, moves_on}
-use Rattle.exec_settled.proofs.SettledOf.{Rests, all_of, each, left_settled}
-use Rattle.exec_settled.proofs.SettledPlaces.{not-true, kept, listed}
+use Rattle.exec_rest.{specs.{AtRest.IsPlaced, Rested.place_at}, proofs.{CallHeeds.set_at, CallSeats.{Seated, going_seated, wake_begun}, Calls.is_call, Others.{beside, is_other, map_like, set_like}}}
+use Rattle.exec_settled.{specs.Settled.IsSettled, proofs.{SettledLike.{Alike, AreAlike, all_same, flying_live, itself, moves_on}, SettledOf.{Rests, all_of, each, left_settled}, SettledPlaces.{not-true, kept, listed}}}
+use Rattle.exec_machine.specs.declared.state.RequestPhase.TheVariants as phase
 
 wake_requests : (s : Common) (t : ℕ) (e : Event) (choice : Choice) → (after_wake_by_call s t e choice).requests ≡ s.requests
 wake_requests = grind arith

@@ -1,11 +1,8 @@
 -- Only the callbacks lead to the places at which a worker waits on its ring as one that closes, and to its end: where the other parts lead.
-use Rattle.std.proofs.Common.{◌≡◌, ℕ, Bool, true, false, refl, if◌then◌else◌, arith}
-use Rattle.std.specs.Prelude.{not}
+use Rattle.std.{proofs.Common.{◌≡◌, ℕ, Bool, true, false, refl, if◌then◌else◌, arith}, specs.Prelude.not}
 use Rattle.exec_words.specs.declared.head.{Fit.Fit, Head.Head}
-use Rattle.exec_machine.specs.{declared.{config.Configuration.Configuration}, World.{Common, Own as Books}}
-use Rattle.exec_moves.specs.{declared.{handing.{AfterLeave.AfterLeave, AfterPush.AfterPush}, place.{AfterService.AfterService, Place.Place}}, Callback.{is_of_pool, to_queue}, Parts.{after_leave, after_return, has_others}, Push.after_fit, Send.{after_spawn}, Serve.after_service, State.Desk}
-use Rattle.exec_moves.specs.declared.idling.Stay.{Stay}
-use Rattle.exec_moves.specs.declared.place.InClosing.{InClosing}
+use Rattle.exec_machine.specs.{declared.config.Configuration.Configuration, World.{Common, Own as Books}}
+use Rattle.exec_moves.specs.{declared.{handing.{AfterLeave.AfterLeave, AfterPush.AfterPush}, place.{AfterService.AfterService, Place.Place, InClosing.InClosing}, idling.Stay.Stay}, Callback.{is_of_pool, to_queue}, Parts.{after_leave, after_return, has_others}, Push.after_fit, Send.after_spawn, Serve.after_service, State.Desk}
 use Rattle.exec_rest.proofs.Continuing.{is_light}
 
 -- it waits on its ring as a worker that closes, or is at its end

@@ -1,14 +1,10 @@
 -- What a worker has told and submitted, as its desk and its own part say it, and what is known of a place by which of its tests fail.
-use Rattle.std.proofs.Common.{◌≡◌, ℕ, Bool, true, false, List, Option, refl, sym, ap, ◌∙◌, arith}
-use Rattle.std.proofs.lemmas.Bool.{false≢true, true≢false}
-pub use Rattle.std.proofs.lemmas.Bool.{not-true}
+use Rattle.std.proofs.{Common.{◌≡◌, ℕ, Bool, true, false, List, Option, refl, sym, ap, ◌∙◌, arith}, lemmas.Bool.{false≢true, true≢false}}
 use Rattle.exec_machine.specs.{declared.{config.Configuration.Configuration, event.Event.{Event, TheVariants.{Busy, Enter, Release, Rouse, Sleep, Turn, Wake}}}, World.Own as Books}
-use Rattle.exec_moves.specs.{declared.{idling.{InRingWait.InRingWait, Stay.Stay}, place.{InClosing.InClosing, Place.Place}}, Callback.has_callbacks, Load.{has_submissions}, State.Desk}
-use Rattle.exec_moves.specs.declared.place.Place.TheVariants as at
-use Rattle.exec_rest.specs.{AtRest.is_end, Places.is_to_sleep_on_ring, Posted.has_tested}
-use Rattle.exec_rest.specs.AtRest.{stays_closing}
-use Rattle.exec_settled.specs.Settled.{HasSubmitted, HasTold, ends_ring_wait, has_tested_ring, has_told, waits_on_word}
-use Rattle.exec_settled.proofs.SettledParts.{is_shut}
+use Rattle.exec_moves.specs.{declared.{idling.{InRingWait.InRingWait, Stay.Stay}, place.{InClosing.InClosing, Place.{Place, Place as at}}}, Callback.has_callbacks, Load.has_submissions, State.Desk}
+use Rattle.exec_rest.specs.{AtRest.{is_end, stays_closing}, Places.is_to_sleep_on_ring, Posted.has_tested}
+use Rattle.exec_settled.{specs.Settled.{HasSubmitted, HasTold, ends_ring_wait, has_tested_ring, has_told, waits_on_word}, proofs.SettledParts.is_shut}
+pub use Rattle.std.proofs.lemmas.Bool.{not-true}
 
 -- WHAT THAT READS of a desk, and of an own part
 pub record OfDesk : Type 0 where

@@ -1,11 +1,7 @@
 -- Polls, claims, withdrawals and messages lead neither to a wait on the ring of a worker that closes nor to its end.
 use Rattle.std.proofs.Common.{◌≡◌, ℕ, Bool, false, Option, if◌then◌else◌, arith}
-use Rattle.exec_machine.specs.{declared.{config.{Configuration.Configuration, ScriptWord.ScriptWord}, state.{MailMessage.MailMessage, Operation.Operation, RequestPhase.RequestPhase, Waiting.Waiting}}, Choice.Choice.Plain, Requests.operation_asked, World.{Common, Task, request_of, Own as Books}, Words.{next_word}}
-use Rattle.exec_machine.specs.declared.state.Waiting.TheVariants as waiting
-use Rattle.exec_moves.specs.declared.handing.{AfterClaim.AfterClaim, AfterSend.AfterSend}
-use Rattle.exec_moves.specs.declared.place.{InPoll.InPoll}
-use Rattle.exec_moves.specs.{Claim.{Claimed, after_claim}, Look.after_withdrawal, Move.{move_act, move_look_at, move_poll, move_wake}, Poll.{Sight, act, act_asked, act_by, after_pend, requeued_if, resume}, Send.{Mailbox, payer_of_send, posting, posting_of, send_message, send_root}, State.{Desk, Moved, Things}}
-use Rattle.exec_moves.specs.declared.idling.AfterWait.TheVariants as later
+use Rattle.exec_machine.specs.{declared.{config.{Configuration.Configuration, ScriptWord.ScriptWord}, state.{MailMessage.MailMessage, Operation.Operation, RequestPhase.RequestPhase, Waiting.{Waiting, Waiting as waiting}}}, Choice.Choice.Plain, Requests.operation_asked, World.{Common, Task, request_of, Own as Books}, Words.next_word}
+use Rattle.exec_moves.specs.{declared.{handing.{AfterClaim.AfterClaim, AfterSend.AfterSend}, place.InPoll.InPoll, idling.AfterWait.AfterWait as later}, Claim.{Claimed, after_claim}, Look.after_withdrawal, Move.{move_act, move_look_at, move_poll, move_wake}, Poll.{Sight, act, act_asked, act_by, after_pend, requeued_if, resume}, Send.{Mailbox, payer_of_send, posting, posting_of, send_message, send_root}, State.{Desk, Moved, Things}}
 use Rattle.exec_settled.proofs.SettledParts.{is_shut, off_if, off_desk_if, off_after_return, off_after_spawn, off_to_queue, off_light}
 use Rattle.exec_rest.proofs.Continuing.{light_next_pick, light_after_poll, light_leaves_for_turn, light_cancels_left, light_after_posting}
 

@@ -1,21 +1,10 @@
 -- A step of a worker keeps what each has done before it sleeps.
-use Rattle.std.proofs.Common.{◌≡◌, ℕ, ◌<◌, Bool, true, false, ◌||◌, length, Option, refl, sym, ap, ◌∙◌, subst, arith, inl, inr}
-use Rattle.std.proofs.lemmas.Bool.{false≢true, true≢false, cases_eq}
-use Rattle.std.proofs.lemmas.List.{get_or_append_left, get_or-set_same, length-set}
-use Rattle.std.specs.Prelude.{not}
-use Rattle.exec_machine.specs.{declared.{config.Configuration.Configuration, event.Event.{Event, TheVariants.{Dedicated, Enter, Sleep}}}, After.{common_after, own_after}, Allowed.Allowed, Callers.{is_enabled}, Choice.Choice, Tests.{has_ended, is_awake}, World.{Common, Own as Books, own_of, seat_of}}
-use Rattle.exec_machine.specs.declared.step.Action.TheVariants as action
+use Rattle.std.{proofs.{Common.{◌≡◌, ℕ, ◌<◌, Bool, true, false, ◌||◌, length, Option, refl, sym, ap, ◌∙◌, subst, arith, inl, inr}, lemmas.{Bool.{false≢true, true≢false, cases_eq}, List.{get_or_append_left, get_or-set_same, length-set}}}, specs.Prelude.not}
+use Rattle.exec_machine.specs.{declared.{config.Configuration.Configuration, event.Event.{Event, TheVariants.{Dedicated, Enter, Sleep}}, step.Action.Action as action}, After.{common_after, own_after}, Allowed.Allowed, Callers.is_enabled, Choice.Choice, Tests.{has_ended, is_awake}, World.{Common, Own as Books, own_of, seat_of}}
 use Rattle.exec_moves.specs.{Callback.has_requests, Move.move, Plays.{Playing, by_move, desk_of}, State.{Desk, Moved, Things}}
-use Rattle.exec_rest.specs.{AtRest.IsPlaced}
-use Rattle.exec_rest.proofs.{FactsA.seated, Frames.{asleep_after, desk_other, desk_own, landed_own, landed_same}, Heeds.{Heeds, landed_after}, Step.heeds_at}
+use Rattle.exec_rest.{specs.AtRest.{IsPlaced, stays_closing}, proofs.{FactsA.seated, Frames.{asleep_after, desk_other, desk_own, landed_own, landed_same}, Heeds.{Heeds, landed_after}, Step.heeds_at}}
 use Rattle.exec_books.proofs.Own.{own_by_mail}
-use Rattle.exec_settled.specs.{Given.IsGiven, Settled.{HasEntered, IsSettled, waits_on_word}}
-use Rattle.exec_rest.specs.AtRest.{stays_closing}
-use Rattle.exec_settled.proofs.SettledLike.{none_staged, other_alike, plain_alike, requests_then}
-use Rattle.exec_settled.proofs.SettledMoves.{Settles, Was}
-use Rattle.exec_settled.proofs.SettledOf.{SettledAt, SettledOf, all_of, each, left_settled, others_own}
-use Rattle.exec_settled.proofs.SettledPlaces.{not-true, is_plain, kept, listed}
-use Rattle.exec_settled.proofs.SettledWaits.{move_settles}
+use Rattle.exec_settled.{specs.{Given.IsGiven, Settled.{HasEntered, IsSettled, waits_on_word}}, proofs.{SettledLike.{none_staged, other_alike, plain_alike, requests_then}, SettledMoves.{Settles, Was}, SettledOf.{SettledAt, SettledOf, all_of, each, left_settled, others_own}, SettledPlaces.{not-true, is_plain, kept, listed}, SettledWaits.move_settles}}
 
 -- ITS OWN, which is awake before
 module _ (c : Configuration) (i : ℕ) (me : Books) (s : Common) (p : Desk) (e : Event) (choice : Choice) (q : Desk) where

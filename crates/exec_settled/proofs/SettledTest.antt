@@ -1,21 +1,10 @@
 -- From a place to which the test for work leads to the next: neither the desk nor the own part gets anything that has to be told or submitted.
-use Rattle.std.proofs.Common.{◌≡◌, ℕ, ◌==◌, ◌+◌, ◌-◌, Bool, true, false, List, [], ◌∷◌, Option, Some, None, refl, sym, ◌∙◌, if◌then◌else◌, arith}
-use Rattle.std.proofs.lemmas.Bool.{false≢true}
-use Rattle.std.specs.Prelude.{nat_lt, nat_le, not}
-use Rattle.exec_words.specs.{declared.head.Head.Head, Generator.stirred, Head.is_stealable_at, Idle.is_in, Queue.{head_of, room_of, tail_of}, Word.is_idle_at, declared.word.PureWord.PureWord}
+use Rattle.std.{proofs.{Common.{◌≡◌, ℕ, ◌==◌, ◌+◌, ◌-◌, Bool, true, false, List, [], ◌∷◌, Option, Some, None, refl, sym, ◌∙◌, if◌then◌else◌, arith}, lemmas.Bool.false≢true}, specs.Prelude.{nat_lt, nat_le, not}}
+use Rattle.exec_words.specs.{declared.{head.Head.Head, word.PureWord.PureWord}, Generator.stirred, Head.is_stealable_at, Idle.is_in, Queue.{head_of, room_of, tail_of}, Word.is_idle_at}
 use Rattle.exec_machine.specs.{declared.{config.Configuration.Configuration, event.Event.{Event, TheVariants.{Sleep, Turn}}}, After.own_after, Choice.{Choice, Choice.Plain}, Deadlines.next_due, World.{Common, Own as Books}}
-use Rattle.exec_moves.specs.declared.idling.{AfterWait.AfterWait, InLook.InLook, InScan.InScan, InSearch.InSearch, InWordWait.InWordWait, Scan.Scan}
-use Rattle.exec_moves.specs.declared.place.Place.{Place}
-use Rattle.exec_moves.specs.{Callback.{has_requests, is_of_pool}, Load.{has_come, has_mail, leaves_for_turn}, Look.{after_withdrawal, look_at_mirror, looks_from, past_own, searching_if}, Move.{move_at, move_look, move_scan, move_search, move_word_wait}, Pop.same_head, Search.{begun_scan, from_of, half, judge_head, judge_tail, looks_at, past, past_own_queue}, State.{Desk, Moved, Things, does, queue_of, word_of}, Wait.{after_sleep, first_search, goes_back, noting_sleep, waits, withdraws}}
-use Rattle.exec_moves.specs.declared.idling.AfterWait.TheVariants as next
-use Rattle.exec_moves.specs.declared.idling.InLook.TheVariants as look
-use Rattle.exec_moves.specs.declared.idling.InScan.TheVariants as scan
-use Rattle.exec_moves.specs.declared.idling.InSearch.TheVariants as search
+use Rattle.exec_moves.specs.{declared.{idling.{AfterWait.{AfterWait, AfterWait as next}, InLook.{InLook, InLook as look}, InScan.{InScan, InScan as scan}, InSearch.{InSearch, InSearch as search}, InWordWait.InWordWait, Scan.Scan}, place.Place.{Place, Place as at}}, Callback.{has_requests, is_of_pool}, Load.{has_come, has_mail, leaves_for_turn}, Look.{after_withdrawal, look_at_mirror, looks_from, past_own, searching_if}, Move.{move_at, move_look, move_scan, move_search, move_word_wait}, Pop.same_head, Search.{begun_scan, from_of, half, judge_head, judge_tail, looks_at, past, past_own_queue}, State.{Desk, Moved, Things, does, queue_of, word_of}, Wait.{after_sleep, first_search, goes_back, noting_sleep, waits, withdraws}}
+use Rattle.exec_settled.{specs.Settled.{has_tested_ring, waits_on_word}, proofs.{SettledParts.is_shut, SettledPlaces.{is_plain, kept, listed}}}
 use Rattle.exec_moves.specs.declared.idling.InWordWait.TheVariants as word
-use Rattle.exec_moves.specs.declared.place.Place.TheVariants as at
-use Rattle.exec_settled.specs.Settled.{has_tested_ring, waits_on_word}
-use Rattle.exec_settled.proofs.SettledParts.{is_shut}
-use Rattle.exec_settled.proofs.SettledPlaces.{is_plain, kept, listed}
 
 module _ (c : Configuration) (i : ℕ) (me : Books) (s : Common) where
   -- WHERE THAT LEADS: to no wait of a closing worker, and not past the test of a wait on the ring; to a wait on the wake word only without requests

@@ -1,27 +1,10 @@
 -- A wait on the ring, the end, and with these all moves of a worker.
-use Rattle.std.proofs.Common.{◌≡◌, ℕ, ◌==◌, Bool, true, false, ◌&&◌, ◌||◌, List, [], Option, refl, sym, ap, ◌∙◌, inl, inr, if◌then◌else◌, arith}
-use Rattle.std.proofs.lemmas.Bool.{false≢true}
-use Rattle.std.specs.Prelude.{◌⊎◌, drop, not}
+use Rattle.std.{proofs.{Common.{◌≡◌, ℕ, ◌==◌, Bool, true, false, ◌&&◌, ◌||◌, List, [], Option, refl, sym, ap, ◌∙◌, inl, inr, if◌then◌else◌, arith}, lemmas.Bool.false≢true}, specs.Prelude.{◌⊎◌, drop, not}}
 use Rattle.exec_words.specs.{Idle.is_in, Word.is_idle_at}
 use Rattle.exec_machine.specs.{declared.{config.Configuration.Configuration, event.Event.{Event, TheVariants.{Busy, End, Enter, Sleep, Turn}}}, After.own_after, Choice.{Choice, Choice.Plain}, Deadlines.next_due, Ranges.ring_size, World.{Common, seat_of, Own as Books}}
-use Rattle.exec_moves.specs.declared.idling.{AfterWait.AfterWait, InRingWait.InRingWait, Stay.Stay}
-use Rattle.exec_moves.specs.declared.place.{InClosing.InClosing, Place.Place}
-use Rattle.exec_moves.specs.{Callback.{has_requests, is_full}, Claim.claimed, Load.{has_come, has_submissions}, Look.searching_if, Move.{move_at, move_ring_wait}, Send.first_letter, State.{Desk, Moved, Own, Things, WakePoll, does, turns, wake_poll_of, word_of}, Submit.{one_more, with_poll}, Thing.{mailbox_of, ring_of}, Wait.{after_wait, enter_ring, has_completion}}
-use Rattle.exec_moves.specs.declared.handing.AfterSend.TheVariants as send
-use Rattle.exec_moves.specs.declared.idling.AfterWait.TheVariants as next
-use Rattle.exec_moves.specs.declared.idling.InRingWait.TheVariants as ring
-use Rattle.exec_moves.specs.declared.idling.Stay.TheVariants as stay
-use Rattle.exec_moves.specs.declared.place.InClosing.TheVariants as closing
-use Rattle.exec_moves.specs.declared.place.Place.TheVariants as at
-use Rattle.exec_rest.specs.{Places.is_to_sleep_on_ring, Posted.has_tested}
-use Rattle.exec_rest.proofs.{Continuing.{light_polls, light_first_pick}, Untested.{is_test, untested}}
-use Rattle.exec_settled.specs.Settled.{HasSubmitted, has_submitted, has_tested_ring, waits_on_word}
-use Rattle.exec_settled.proofs.SettledMoves.{Comes, Settles, Was, away, calls, globals, kicks_one, pushes_one, settled, signals_one, tests}
-use Rattle.exec_settled.proofs.SettledParts.{is_shut, off_after_return, off_light}
-use Rattle.exec_settled.proofs.SettledOff.{closes, loads, mails, picks, pops_one, serves}
-use Rattle.exec_settled.proofs.SettledPolls.{off_claim, off_made_up, off_moved_if, polls, posts}
-use Rattle.exec_settled.proofs.SettledPlaces.{OfBooks, deep_untested, is_plain, kept, listed, no_sleep, sleep_deep, submitted_by, submitted_with, told_with}
-use Rattle.exec_settled.proofs.SettledTest.{IsLeft, OfPlace, looks, of_plain, of_withdraws, reads, scans, searches, waits_there, withdraws_one}
+use Rattle.exec_moves.specs.{declared.{idling.{AfterWait.{AfterWait, AfterWait as next}, InRingWait.{InRingWait, InRingWait as ring}, Stay.{Stay, Stay as stay}}, place.{InClosing.{InClosing, InClosing as closing}, Place.{Place, Place as at}}, handing.AfterSend.AfterSend as send}, Callback.{has_requests, is_full}, Claim.claimed, Load.{has_come, has_submissions}, Look.searching_if, Move.{move_at, move_ring_wait}, Send.first_letter, State.{Desk, Moved, Own, Things, WakePoll, does, turns, wake_poll_of, word_of}, Submit.{one_more, with_poll}, Thing.{mailbox_of, ring_of}, Wait.{after_wait, enter_ring, has_completion}}
+use Rattle.exec_rest.{specs.{Places.is_to_sleep_on_ring, Posted.has_tested}, proofs.{Continuing.{light_polls, light_first_pick}, Untested.{is_test, untested}}}
+use Rattle.exec_settled.{specs.Settled.{HasSubmitted, has_submitted, has_tested_ring, waits_on_word}, proofs.{SettledMoves.{Comes, Settles, Was, away, calls, globals, kicks_one, pushes_one, settled, signals_one, tests}, SettledParts.{is_shut, off_after_return, off_light}, SettledOff.{closes, loads, mails, picks, pops_one, serves}, SettledPolls.{off_claim, off_made_up, off_moved_if, polls, posts}, SettledPlaces.{OfBooks, deep_untested, is_plain, kept, listed, no_sleep, sleep_deep, submitted_by, submitted_with, told_with}, SettledTest.{IsLeft, OfPlace, looks, of_plain, of_withdraws, reads, scans, searches, waits_there, withdraws_one}}}
 
 module _ (c : Configuration) (i : ℕ) (me : Books) (s : Common) (d : Desk) where
   -- A WAIT ON THE RING leads on in it, or out

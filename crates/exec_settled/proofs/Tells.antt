@@ -1,11 +1,6 @@
 -- What the move of a worker does as far as tasks are told of what they wait for. Each move does it; and whatever does it keeps what holds.
-use Rattle.std.proofs.Common.{◌≡◌, ℕ, true, false, Some}
-use Rattle.std.specs.Prelude.{◌⊎◌}
-use Rattle.exec_machine.specs.{declared.{state.Forwarding.TheVariants.{Applied, Unsent}}, Tests.{is_applied, is_done, is_resolved}, World.{Common, request_of, sleeper_of, task_of}}
-use Rattle.exec_machine.specs.declared.event.Event.TheVariants as event
-use Rattle.exec_machine.specs.declared.state.MailMessage.TheVariants as message
-use Rattle.exec_machine.specs.declared.state.Waiting.TheVariants as waiting
-use Rattle.exec_machine.specs.Tasks.{begun_waiting}
+use Rattle.std.{proofs.Common.{◌≡◌, ℕ, true, false, Some}, specs.Prelude.◌⊎◌}
+use Rattle.exec_machine.specs.{declared.{state.{Forwarding.TheVariants.{Applied, Unsent}, MailMessage.MailMessage as message, Waiting.Waiting as waiting}, event.Event.Event as event}, Tests.{is_applied, is_done, is_resolved}, World.{Common, request_of, sleeper_of, task_of}, Tasks.begun_waiting}
 use Rattle.exec_outcomes.specs.declared.outcome.Outcome.{Outcome}
 use Rattle.exec_moves.specs.{declared.{handing.{AfterCallbacks.AfterCallbacks, Heard.Heard}, place.{InCallbacks.InCallbacks, InPoll.InPoll, Place.Place}}, Poll.after_begin, Slots.{is_in_slots, numbers_in}, State.{Desk, Moved, Things}, Told.has_number}
 

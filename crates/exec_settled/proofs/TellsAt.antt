@@ -1,9 +1,8 @@
 -- Each move of a worker tells what it has to.
 use Rattle.std.proofs.Common.{◌≡◌, ℕ, refl}
 use Rattle.exec_machine.specs.{declared.config.Configuration.Configuration, After.common_after, World.{Common, Own as Books}}
-use Rattle.exec_moves.specs.{declared.place.Place.Place, Move.{move, move_at}, State.{Desk, Things}}
-use Rattle.exec_moves.specs.declared.place.Place.TheVariants as at
-use Rattle.exec_settled.proofs.{Tells.{Tells}, TellsCallbacks.calls, TellsClosing.{closings, mails}, TellsPlain.TellsAll, TellsPolling.polls, TellsQuiet.{begins, claims, globals, kicks, leaves, loads, looks, picks, pops_one, pushes, reads, ring_wait, scans, searches, sends_cancel, signalled, takes_flag, tests, withdraws, word_wait}, TellsServing.service}
+use Rattle.exec_moves.specs.{declared.place.Place.{Place, Place as at}, Move.{move, move_at}, State.{Desk, Things}}
+use Rattle.exec_settled.proofs.{Tells.Tells, TellsCallbacks.calls, TellsClosing.{closings, mails}, TellsPlain.TellsAll, TellsPolling.polls, TellsQuiet.{begins, claims, globals, kicks, leaves, loads, looks, picks, pops_one, pushes, reads, ring_wait, scans, searches, sends_cancel, signalled, takes_flag, tests, withdraws, word_wait}, TellsServing.service}
 
 module _ (c : Configuration) (i : ℕ) (me : Books) (s : Common) (d : Desk) (x : Things) where
   tells_from : (p : Place) → d.place ≡ p → TellsAll c i me s d x (move_at c i me s d x p)

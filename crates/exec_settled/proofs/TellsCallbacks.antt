@@ -1,12 +1,7 @@
 -- What a worker tells in its callbacks: who is to be woken is woken, and an end is sent to who waits elsewhere, which is woken next.
-use Rattle.std.proofs.Common.{◌≡◌, ℕ, ◌==◌, Bool, true, false, List, [], ◌∷◌, drop, Option, Some, refl, sym, ap, ◌∙◌, subst, inl, inr, arith}
-use Rattle.std.proofs.lemmas.Bool.{false≢true, eq-eqb, eqb-true, or_cases, or_left, or_right}
-use Rattle.std.specs.Prelude.{◌⊎◌}
-use Rattle.exec_machine.specs.{declared.{config.Configuration.Configuration, event.Event.TheVariants.{Wake}}, Ranges.ring_size, Tests.{is_done}, World.{Common, Task, Own as Books, request_of, sleeper_of, task_of}}
-use Rattle.exec_moves.specs.{declared.{handing.{AfterCallbacks.AfterCallbacks, Heard.Heard}, place.{InCallbacks.InCallbacks, Place.Place}}, Callback.{Item, Item.{Answers, Completes, LetsGo, Nothing, Releases, Wakes}, first_of, item_next, tells_waiter, woken_by}, Move.{move_callbacks, move_item}, State.{Desk, Moved, Things}, Told.{has_number, in_order}}
-use Rattle.exec_moves.specs.declared.handing.Heard.TheVariants as heard
-use Rattle.exec_moves.specs.declared.place.InCallbacks.TheVariants as callback
-use Rattle.exec_moves.specs.declared.place.Place.TheVariants as at
+use Rattle.std.{proofs.{Common.{◌≡◌, ℕ, ◌==◌, Bool, true, false, List, [], ◌∷◌, drop, Option, Some, refl, sym, ap, ◌∙◌, subst, inl, inr, arith}, lemmas.Bool.{false≢true, eq-eqb, eqb-true, or_cases, or_left, or_right}}, specs.Prelude.◌⊎◌}
+use Rattle.exec_machine.specs.{declared.{config.Configuration.Configuration, event.Event.TheVariants.Wake}, Ranges.ring_size, Tests.is_done, World.{Common, Task, Own as Books, request_of, sleeper_of, task_of}}
+use Rattle.exec_moves.specs.{declared.{handing.{AfterCallbacks.AfterCallbacks, Heard.{Heard, Heard as heard}}, place.{InCallbacks.{InCallbacks, InCallbacks as callback}, Place.{Place, Place as at}}}, Callback.{Item, Item.{Answers, Completes, LetsGo, Nothing, Releases, Wakes}, first_of, item_next, tells_waiter, woken_by}, Move.{move_callbacks, move_item}, State.{Desk, Moved, Things}, Told.{has_number, in_order}}
 use Rattle.exec_settled.proofs.{Tells.WakesNext, TellsPlain.{Mild, TellsAll, all_told, is_mute, late, lists_if, lists_of, mild, mildly, quiet, told_apart}}
 
 -- WHAT WAS SENT

@@ -1,15 +1,8 @@
 -- What a worker tells by the messages that it applies, and as it closes.
-use Rattle.std.proofs.Common.{◌≡◌, ℕ, zero, suc, ◌+◌, ◌-◌, Bool, true, false, List, [], ◌∷◌, length, set, get_or, Option, Some, None, refl, sym, ap, subst, if◌then◌else◌, arith}
-use Rattle.std.proofs.lemmas.Bool.{true≢false, false≢true}
-use Rattle.std.specs.Prelude.{slice_get, slice_index_or}
+use Rattle.std.{proofs.{Common.{◌≡◌, ℕ, zero, suc, ◌+◌, ◌-◌, Bool, true, false, List, [], ◌∷◌, length, set, get_or, Option, Some, None, refl, sym, ap, subst, if◌then◌else◌, arith}, lemmas.Bool.{true≢false, false≢true}}, specs.Prelude.{slice_get, slice_index_or}}
 use Rattle.exec_task.specs.declared.drain.Drain.{Drain}
-use Rattle.exec_machine.specs.{declared.{config.Configuration.Configuration, event.Event.{Event, TheVariants.{Apply}}, state.{Forwarding.TheVariants.{Applied}, MailMessage.MailMessage}}, Closing.{ends_by_clear, with_cleared}, Requests.{dropped}, Tasks.{after_over}, Tests.{is_resolved, is_unsent}, World.{Common, Own as Books, Task, no_task, request_of, sleeper_of, task_of}}
-use Rattle.exec_machine.specs.declared.state.MailMessage.TheVariants as message
-use Rattle.exec_moves.specs.{declared.place.{InClosing.InClosing, InMail.InMail, Place.Place}, Close.{clear, close_sleeper, first_asleep, first_held, orphan, visit}, Load.has_mail, Mail.{after_message, apply, take_mail, to_callbacks, told_by_message}, Move.{move_closing, move_mail}, Pop.shard_count, State.{Desk, Moved, Own, Things, does, inbox_of, turns, word_of}, Thing.{aside, set_word, with_inbox, with_shard}, Told.{has_number, lets_go_all, told_of_cancel, told_of_drop, told_of_fire, told_of_forward, told_of_timer_forward, woken_where_awaited}}
-use Rattle.exec_moves.specs.declared.handing.AfterSend.TheVariants as send
-use Rattle.exec_moves.specs.declared.place.InClosing.TheVariants as closing
-use Rattle.exec_moves.specs.declared.place.InMail.TheVariants as mail
-use Rattle.exec_moves.specs.declared.place.Place.TheVariants as at
+use Rattle.exec_machine.specs.{declared.{config.Configuration.Configuration, event.Event.{Event, TheVariants.Apply}, state.{Forwarding.TheVariants.Applied, MailMessage.{MailMessage, MailMessage as message}}}, Closing.{ends_by_clear, with_cleared}, Requests.dropped, Tasks.after_over, Tests.{is_resolved, is_unsent}, World.{Common, Own as Books, Task, no_task, request_of, sleeper_of, task_of}}
+use Rattle.exec_moves.specs.{declared.{place.{InClosing.{InClosing, InClosing as closing}, InMail.{InMail, InMail as mail}, Place.{Place, Place as at}}, handing.AfterSend.AfterSend as send}, Close.{clear, close_sleeper, first_asleep, first_held, orphan, visit}, Load.has_mail, Mail.{after_message, apply, take_mail, to_callbacks, told_by_message}, Move.{move_closing, move_mail}, Pop.shard_count, State.{Desk, Moved, Own, Things, does, inbox_of, turns, word_of}, Thing.{aside, set_word, with_inbox, with_shard}, Told.{has_number, lets_go_all, told_of_cancel, told_of_drop, told_of_fire, told_of_forward, told_of_timer_forward, woken_where_awaited}}
 use Rattle.exec_settled.proofs.{TellsEvents.dropped_observed, TellsMild.{adds_lists, gone_rests, rests_at, same_awaited, told_lists}, TellsPlain.{Mild, TellsAll, is_mute, lists_of, mild, mildly, no_ends, quiet, quiet_if, told_apart}, TellsQuiet.posts_root, TellsTold.{Adds, adds, all_adds, all_awaited, cancel_told, drop_told, fire_told, forward_told, sent_at_forward, sent_at_timer_forward, timer_forward_told, told_then, woken_told}}
 
 -- which message is applied

@@ -1,13 +1,7 @@
 -- Of each event: whether a request that somebody holds is over by it, or a sleeper fires by it. Few do that.
-use Rattle.std.proofs.Common.{◌≡◌, ℕ, zero, suc, Bool, true, false, ◌&&◌, ◌==◌, List, [], ◌∷◌, ◌++◌, map, Option, Some, refl, sym, ◌∙◌, subst, inl, inr, get_or, set, if◌then◌else◌, arith}
-use Rattle.std.proofs.lemmas.Bool.{true≢false, false≢true}
-use Rattle.std.specs.Prelude.{◌⊎◌}
-use Rattle.exec_machine.specs.declared.{config.Configuration.Configuration, event.Event.Event, state.{MailMessage.MailMessage, Request.Request, Sleeper.Sleeper, Waiting.Waiting}}
-use Rattle.exec_machine.specs.{After.{common_after, polled}, Choice.{Choice, Payer}, Closing.{after_turn, ends_by_clear, gone_with, with_cleared}, Deadlines.new_sleeper, Mail.{after_message, after_sending, is_left_out, is_root_message, posted}, Requests.{account_of_open, asked_now, dropped, flown, judged_of, new_request, resolved_if, with_seen}, Tasks.{after_over, after_payment, after_wake, after_word, pended_phase, requests_after_drops, sleepers_after_waking_up}, Tests.{is_resolved, set_open, set_seat, set_task}, World.{Common, Own as Books, no_request, no_sleeper, open_of, request_of, seat_of, sleeper_of, task_of}}
-use Rattle.exec_outcomes.specs.{declared.outcome.{OpResult.OpResult}, Outcomes.refuses_hint}
-use Rattle.exec_machine.specs.declared.event.Event.TheVariants as event
-use Rattle.exec_machine.specs.declared.state.MailMessage.TheVariants as message
-use Rattle.exec_machine.specs.declared.state.Waiting.TheVariants as waiting
+use Rattle.std.{proofs.{Common.{◌≡◌, ℕ, zero, suc, Bool, true, false, ◌&&◌, ◌==◌, List, [], ◌∷◌, ◌++◌, map, Option, Some, refl, sym, ◌∙◌, subst, inl, inr, get_or, set, if◌then◌else◌, arith}, lemmas.Bool.{true≢false, false≢true}}, specs.Prelude.◌⊎◌}
+use Rattle.exec_machine.specs.{declared.{config.Configuration.Configuration, event.Event.{Event, Event as event}, state.{MailMessage.{MailMessage, MailMessage as message}, Request.Request, Sleeper.Sleeper, Waiting.{Waiting, Waiting as waiting}}}, After.{common_after, polled}, Choice.{Choice, Payer}, Closing.{after_turn, ends_by_clear, gone_with, with_cleared}, Deadlines.new_sleeper, Mail.{after_message, after_sending, is_left_out, is_root_message, posted}, Requests.{account_of_open, asked_now, dropped, flown, judged_of, new_request, resolved_if, with_seen}, Tasks.{after_over, after_payment, after_wake, after_word, pended_phase, requests_after_drops, sleepers_after_waking_up}, Tests.{is_resolved, set_open, set_seat, set_task}, World.{Common, Own as Books, no_request, no_sleeper, open_of, request_of, seat_of, sleeper_of, task_of}}
+use Rattle.exec_outcomes.specs.{declared.outcome.OpResult.OpResult, Outcomes.refuses_hint}
 use Rattle.exec_books.proofs.Spares.{dropped_worker}
 
 -- a request that somebody holds may be over by it, or a sleeper fires

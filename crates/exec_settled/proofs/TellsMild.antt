@@ -1,8 +1,7 @@
 -- Moves that tell of one request or of one sleeper, or of all that a task held.
-use Rattle.std.proofs.Common.{◌≡◌, ℕ, zero, suc, true, false, List, [], ◌∷◌, set, get_or, Option, Some, None, refl, sym, ◌∙◌, subst, arith}
-use Rattle.std.proofs.lemmas.{Bool.{true≢false, eqb-true, eqb-false}, List.get_or-set_other}
+use Rattle.std.proofs.{Common.{◌≡◌, ℕ, zero, suc, true, false, List, [], ◌∷◌, set, get_or, Option, Some, None, refl, sym, ◌∙◌, subst, arith}, lemmas.{Bool.{true≢false, eqb-true, eqb-false}, List.get_or-set_other}}
 use Rattle.exec_outcomes.specs.declared.outcome.Outcome.{Outcome}
-use Rattle.exec_machine.specs.{declared.{config.Configuration.Configuration, event.Event.TheVariants.{Fire}, state.{Forwarding.TheVariants.Unsent, Request.Request, Sleeper.Sleeper}}, Tests.{is_applied, is_resolved}, World.{Common, Own as Books, no_request, request_of, sleeper_of}}
+use Rattle.exec_machine.specs.{declared.{config.Configuration.Configuration, event.Event.TheVariants.Fire, state.{Forwarding.TheVariants.Unsent, Request.Request, Sleeper.Sleeper}}, Tests.{is_applied, is_resolved}, World.{Common, Own as Books, no_request, request_of, sleeper_of}}
 use Rattle.exec_moves.specs.{Slots.numbers_in, State.{Desk, Moved, Things}, Told.{has_number, told_if_ended, told_of_end, told_of_fire}}
 use Rattle.exec_settled.proofs.{TellsEvents.{AllSleep, all_set, asleep_by, is_firing, is_saying, lasts, same_last, Lasts}, TellsPlain.{Ends, Lists, Mild, ends_none, late, lists_of, no_says, same_lists}, TellsTold.{Adds, Told, Tolds, end_told, fire_told, sent_at_end, sent_at_fire, woken_at_end, woken_at_fire}}
 

@@ -1,12 +1,8 @@
 -- What a move tells, in four parts; and moves that leave the lists of what is to be told as they are.
-use Rattle.std.proofs.Common.{◌≡◌, ℕ, Bool, true, false, not, ◌||◌, List, Some, if◌then◌else◌, arith}
-use Rattle.std.specs.Prelude.{◌⊎◌}
+use Rattle.std.{proofs.Common.{◌≡◌, ℕ, Bool, true, false, not, ◌||◌, List, Some, if◌then◌else◌, arith}, specs.Prelude.◌⊎◌}
 use Rattle.exec_outcomes.specs.declared.outcome.Outcome.{Outcome}
 use Rattle.exec_machine.specs.{declared.{config.Configuration.Configuration, event.Event.{Event, TheVariants.{Apply, Begin, Got, GotTimer, Wait, Wake}}, state.{Forwarding.TheVariants.{Applied, Unsent}, MailMessage.TheVariants.{ForwardRequest, ForwardTimer}, Waiting.TheVariants.{Request, Timer}}}, After.common_after, Tasks.begun_waiting, Tests.{is_applied, is_done, is_resolved}, World.{Common, Own as Books, request_of, sleeper_of, task_of}}
-use Rattle.exec_moves.specs.{declared.{handing.{AfterCallbacks.AfterCallbacks, Heard.Heard}, place.{InCallbacks.InCallbacks, InPoll.InPoll, Place.Place}}, Poll.after_begin, Slots.{is_in_slots, numbers_in}, State.{Desk, Moved, Things}, Thing.puts, Told.has_number}
-use Rattle.exec_moves.specs.declared.place.InCallbacks.TheVariants as callback
-use Rattle.exec_moves.specs.declared.place.InPoll.TheVariants as poll
-use Rattle.exec_moves.specs.declared.place.Place.TheVariants as at
+use Rattle.exec_moves.specs.{declared.{handing.{AfterCallbacks.AfterCallbacks, Heard.Heard}, place.{InCallbacks.{InCallbacks, InCallbacks as callback}, InPoll.{InPoll, InPoll as poll}, Place.{Place, Place as at}}}, Poll.after_begin, Slots.{is_in_slots, numbers_in}, State.{Desk, Moved, Things}, Thing.puts, Told.has_number}
 use Rattle.exec_settled.proofs.{Tells.{Tells, WakesNext}, TellsEvents.{AllLast, AllSleep, is_ending, is_firing, is_saying, asleep_by, last_by}}
 
 -- who stands there looks at nothing that was sent, and wakes nobody to whom something was sent

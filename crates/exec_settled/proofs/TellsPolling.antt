@@ -1,16 +1,8 @@
 -- What a worker tells in a poll: of what the task lets go, and of what it awaits from now on; and it finds what was sent.
-use Rattle.std.proofs.Common.{◌≡◌, ℕ, ◌==◌, Bool, true, false, length, Option, Some, None, refl, sym, ap, ◌∙◌, subst, inl, inr, if◌then◌else◌, arith}
-use Rattle.std.proofs.lemmas.Bool.{true≢false, false≢true}
-use Rattle.std.specs.Prelude.{◌⊎◌}
-use Rattle.exec_outcomes.specs.{declared.outcome.Outcome.{Outcome}, Accounts.is_durable}
-use Rattle.exec_machine.specs.{declared.{config.{Configuration.Configuration, ScriptWord.ScriptWord}, event.Event.{Event, TheVariants.{Begin, Closed, Dedicated, Got, GotTimer, Spawn, Turn, Wait}}, state.{Forwarding.TheVariants.Applied, Operation.Operation, RequestPhase.RequestPhase, Waiting.Waiting}}, Choice.Choice.Plain, Requests.{dropped, operation_asked}, Tasks.{after_over, after_pend as after_pending, begun_waiting}, Tests.{is_idle, is_ready, is_resolved}, World.{Common, Own as Books, Task, request_of, sleeper_of, task_of}, Words.{next_word, newest_held, sleep_asked}}
-use Rattle.exec_machine.specs.declared.config.ScriptWord.TheVariants as script
-use Rattle.exec_machine.specs.declared.state.RequestPhase.TheVariants as phase
-use Rattle.exec_machine.specs.declared.state.Waiting.TheVariants as waiting
-use Rattle.exec_moves.specs.{declared.{handing.AfterSend.AfterSend, place.{InPoll.InPoll, Place.Place}}, Move.{move_act, move_look_at, move_poll, move_wake}, Parts.after_poll, Poll.{Sight, Sight.{Asks, HearsRequest, HearsTimer, Here}, act, act_asked, act_by, acts_on, after_begin, after_pend, await, drop_newest, heard_by, let_go, pend, requeued_if, resume, sight_of, sight_of_act, sleep_for, stops}, Send.{next_task, send_root, wake_own_root, with_newcomer}, State.{Desk, Moved, Things, does, goes, turns}, Thing.{aside, mailbox_of, with_alarms, with_answers, with_mailbox}, Told.{awaits, has_number, lets_go_all, told_of_drop, without_request}}
-use Rattle.exec_moves.specs.declared.handing.AfterSend.TheVariants as send
-use Rattle.exec_moves.specs.declared.place.InPoll.TheVariants as poll
-use Rattle.exec_moves.specs.declared.place.Place.TheVariants as at
+use Rattle.std.{proofs.{Common.{◌≡◌, ℕ, ◌==◌, Bool, true, false, length, Option, Some, None, refl, sym, ap, ◌∙◌, subst, inl, inr, if◌then◌else◌, arith}, lemmas.Bool.{true≢false, false≢true}}, specs.Prelude.◌⊎◌}
+use Rattle.exec_outcomes.specs.{declared.outcome.Outcome.Outcome, Accounts.is_durable}
+use Rattle.exec_machine.specs.{declared.{config.{Configuration.Configuration, ScriptWord.{ScriptWord, ScriptWord as script}}, event.Event.{Event, TheVariants.{Begin, Closed, Dedicated, Got, GotTimer, Spawn, Turn, Wait}}, state.{Forwarding.TheVariants.Applied, Operation.Operation, RequestPhase.{RequestPhase, RequestPhase as phase}, Waiting.{Waiting, Waiting as waiting}}}, Choice.Choice.Plain, Requests.{dropped, operation_asked}, Tasks.{after_over, after_pend as after_pending, begun_waiting}, Tests.{is_idle, is_ready, is_resolved}, World.{Common, Own as Books, Task, request_of, sleeper_of, task_of}, Words.{next_word, newest_held, sleep_asked}}
+use Rattle.exec_moves.specs.{declared.{handing.AfterSend.{AfterSend, AfterSend as send}, place.{InPoll.{InPoll, InPoll as poll}, Place.{Place, Place as at}}}, Move.{move_act, move_look_at, move_poll, move_wake}, Parts.after_poll, Poll.{Sight, Sight.{Asks, HearsRequest, HearsTimer, Here}, act, act_asked, act_by, acts_on, after_begin, after_pend, await, drop_newest, heard_by, let_go, pend, requeued_if, resume, sight_of, sight_of_act, sleep_for, stops}, Send.{next_task, send_root, wake_own_root, with_newcomer}, State.{Desk, Moved, Things, does, goes, turns}, Thing.{aside, mailbox_of, with_alarms, with_answers, with_mailbox}, Told.{awaits, has_number, lets_go_all, told_of_drop, without_request}}
 use Rattle.exec_settled.proofs.{TellsEvents.dropped_observed, TellsMild.{adds_lists, gone_rests, rests_at, told_lists}, TellsPlain.{Mild, TellsAll, all_told, is_mute, lists_if, lists_of, mild, mildly, mute_if, no_ends, quiet, told_apart}, TellsQuiet.{posts, posts_root}, TellsTold.{Adds, adds, all_adds, all_awaited, awaits_it, awaits_more, drop_told}}
 
 abbrev polled_there : Place → ℕ

@@ -1,13 +1,8 @@
 -- Places whose moves leave the lists of what is to be told as they are: all that hands tasks on, searches, looks and waits.
-use Rattle.std.proofs.Common.{◌≡◌, ℕ, Bool, true, ◌||◌, List, refl, if◌then◌else◌, arith}
-use Rattle.std.specs.Prelude.{not, ◌&&◌, drop}
-use Rattle.exec_words.specs.{Queue.{Queue}}
-use Rattle.exec_words.specs.declared.{idle.WorkerSet.WorkerSet}
+use Rattle.std.{proofs.Common.{◌≡◌, ℕ, Bool, true, ◌||◌, List, refl, if◌then◌else◌, arith}, specs.Prelude.{not, ◌&&◌, drop}}
+use Rattle.exec_words.specs.{Queue.Queue, declared.idle.WorkerSet.WorkerSet}
 use Rattle.exec_machine.specs.{declared.{config.Configuration.Configuration, state.MailMessage.{MailMessage, TheVariants.Root}}, Choice.{Choice, Choice.{Plain, Posts}}, Deadlines.next_due, Ranges.ring_size, World.{Common, Own as Books, seat_of}}
-use Rattle.exec_moves.specs.{declared.{handing.{AfterCancels.AfterCancels, AfterClaim.AfterClaim, AfterKick.AfterKick, AfterLeave.AfterLeave, AfterPop.AfterPop, AfterPush.AfterPush, AfterSend.AfterSend, AfterSignal.AfterSignal, InGlobal.InGlobal, InKick.InKick, InPop.InPop, InPush.InPush, InSignal.InSignal}, idling.{AfterWait.AfterWait, InLook.InLook, InRingWait.InRingWait, InScan.InScan, InSearch.InSearch, InWordWait.InWordWait, Stay.Stay}, place.{Found.Found, InLoads.InLoads, InPick.InPick, Place.Place, Round.Round}}, Callback.is_full, Claim.{claim_worker}, Kick.leave_search, Load.{has_come, has_submissions, is_ready, test_for_work}, Look.{withdraw}, Move.{move_global, move_kick, move_loads, move_look, move_pick, move_pop, move_push, move_ring_wait, move_scan, move_search, move_signal, move_word_wait}, Pick.{begin_turn, take_root_flag}, Pop.{after_pop, pops}, Send.{first_letter, is_left_out, payer_of_send, posting_of, send_cancel, send_root, sent}, State.{Desk, Moved, Own, Things}, Submit.with_poll, Thing.{aside, mailbox_of, puts, ring_of, set_ring, with_idle, with_mailbox, with_queue, with_ring}, Wait.{enter_full_ring, enter_ring, has_completion, read_clock}}
-use Rattle.exec_moves.specs.declared.handing.AfterSend.TheVariants as send
-use Rattle.exec_moves.specs.declared.idling.InRingWait.TheVariants as ring
-use Rattle.exec_moves.specs.declared.place.Place.TheVariants as at
+use Rattle.exec_moves.specs.{declared.{handing.{AfterCancels.AfterCancels, AfterClaim.AfterClaim, AfterKick.AfterKick, AfterLeave.AfterLeave, AfterPop.AfterPop, AfterPush.AfterPush, AfterSend.{AfterSend, AfterSend as send}, AfterSignal.AfterSignal, InGlobal.InGlobal, InKick.InKick, InPop.InPop, InPush.InPush, InSignal.InSignal}, idling.{AfterWait.AfterWait, InLook.InLook, InRingWait.{InRingWait, InRingWait as ring}, InScan.InScan, InSearch.InSearch, InWordWait.InWordWait, Stay.Stay}, place.{Found.Found, InLoads.InLoads, InPick.InPick, Place.{Place, Place as at}, Round.Round}}, Callback.is_full, Claim.claim_worker, Kick.leave_search, Load.{has_come, has_submissions, is_ready, test_for_work}, Look.withdraw, Move.{move_global, move_kick, move_loads, move_look, move_pick, move_pop, move_push, move_ring_wait, move_scan, move_search, move_signal, move_word_wait}, Pick.{begin_turn, take_root_flag}, Pop.{after_pop, pops}, Send.{first_letter, is_left_out, payer_of_send, posting_of, send_cancel, send_root, sent}, State.{Desk, Moved, Own, Things}, Submit.with_poll, Thing.{aside, mailbox_of, puts, ring_of, set_ring, with_idle, with_mailbox, with_queue, with_ring}, Wait.{enter_full_ring, enter_ring, has_completion, read_clock}}
 use Rattle.exec_settled.proofs.TellsPlain.{Quiet, TellsAll, is_apart, is_mute, lists_if, lists_of, mute_if, plain_tells, quiet, quiet_if}
 
 module _ (c : Configuration) (i : ℕ) (me : Books) (s : Common) (d : Desk) (x : Things) where

@@ -1,11 +1,8 @@
 -- What a worker tells in a service: of each request that is over by it, and of each sleeper that fires.
-use Rattle.std.proofs.Common.{◌≡◌, ℕ, Bool, true, false, List, [], ◌∷◌, unwrap_or, Option, Some, None, refl, arith}
-use Rattle.std.proofs.lemmas.Bool.{false≢true}
+use Rattle.std.proofs.{Common.{◌≡◌, ℕ, Bool, true, false, List, [], ◌∷◌, unwrap_or, Option, Some, None, refl, arith}, lemmas.Bool.false≢true}
 use Rattle.exec_outcomes.specs.{declared.outcome.{Kind.Kind, OpResult.OpResult, Outcome.Outcome}, Accounts.{Account, outcome_at_grant}}
-use Rattle.exec_machine.specs.{declared.{config.Configuration.Configuration, event.Event.{TheVariants.{Rouse, Serve}}, state.Request.Request}, Deadlines.{enrolled, expired, fires_at, outcome_at_enrol, outcome_at_expiry}, Requests.{account_of_open, granted, outcome_given, outcome_shown, reaped as reaped_by}, Tests.{is_awake}, World.{Common, Own as Books, request_of, seat_of, sleeper_of}}
-use Rattle.exec_moves.specs.{declared.place.{InService.InService, Reaping.Reaping, Service.Service}, Move.{move_service, move_submit}, Serve.{end_service, enter_last, first_to_fire, others_after_reap, reap, result_in}, State.{Desk, Moved, Things, gate_of}, Submit.{Due, Due.{AtGate, Cancels, Ends, Enrols, Expires, Flushes, Stages}, after_grant, due_next, granted_at, stage_next, try_gate}, Thing.{aside, ring_of, with_gate, with_ring}, Told.told_if_ended}
-use Rattle.exec_moves.specs.declared.place.InService.TheVariants as step
-use Rattle.exec_moves.specs.declared.place.Place.TheVariants as at
+use Rattle.exec_machine.specs.{declared.{config.Configuration.Configuration, event.Event.TheVariants.{Rouse, Serve}, state.Request.Request}, Deadlines.{enrolled, expired, fires_at, outcome_at_enrol, outcome_at_expiry}, Requests.{account_of_open, granted, outcome_given, outcome_shown, reaped as reaped_by}, Tests.is_awake, World.{Common, Own as Books, request_of, seat_of, sleeper_of}}
+use Rattle.exec_moves.specs.{declared.place.{InService.{InService, InService as step}, Reaping.Reaping, Service.Service, Place.Place as at}, Move.{move_service, move_submit}, Serve.{end_service, enter_last, first_to_fire, others_after_reap, reap, result_in}, State.{Desk, Moved, Things, gate_of}, Submit.{Due, Due.{AtGate, Cancels, Ends, Enrols, Expires, Flushes, Stages}, after_grant, due_next, granted_at, stage_next, try_gate}, Thing.{aside, ring_of, with_gate, with_ring}, Told.told_if_ended}
 use Rattle.exec_settled.proofs.{TellsMild.{Matches, mild_end, mild_fire}, TellsPlain.{Mild, TellsAll, lists_of, is_mute, mild, mute_if, quiet, told_apart}, TellsQuiet.polled_lists}
 
 module _ (c : Configuration) (i : ℕ) (me : Books) (s : Common) (d : Desk) (x : Things) (v : Service) where

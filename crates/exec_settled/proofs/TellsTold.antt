@@ -1,6 +1,5 @@
 -- What each telling leaves of the lists of what is to be told: what stands in them stays, but for the awaited one that is told of.
-use Rattle.std.proofs.Common.{◌≡◌, ℕ, zero, suc, ◌==◌, ◌||◌, ◌&&◌, Bool, true, false, not, List, [], ◌∷◌, ◌++◌, filter, set, get_or, Some, refl, sym, ap, ◌∙◌, subst, inl, inr, if◌then◌else◌, arith}
-use Rattle.std.proofs.lemmas.Bool.{true≢false, false≢true, or_cases, or_left, or_right, eq-eqb, eqb-true}
+use Rattle.std.proofs.{Common.{◌≡◌, ℕ, zero, suc, ◌==◌, ◌||◌, ◌&&◌, Bool, true, false, not, List, [], ◌∷◌, ◌++◌, filter, set, get_or, Some, refl, sym, ap, ◌∙◌, subst, inl, inr, if◌then◌else◌, arith}, lemmas.Bool.{true≢false, false≢true, or_cases, or_left, or_right, eq-eqb, eqb-true}}
 use Rattle.exec_machine.specs.{declared.state.{MailMessage.TheVariants.{CancelRequest, CancelTimer}, Request.Request, Sleeper.Sleeper, Waiting.Waiting}, Requests.{dropped, ends_by_drop}, Tasks.requests_after_drops, Tests.{is_applied, is_resolved}, World.{Common, Task, no_request, request_of, sleeper_of}}
 use Rattle.exec_moves.specs.{Slots.{is_in_slots, numbers_in}, State.Desk, Told.{awaits, awaits_no_more, has_number, lets_go_all, lets_go_request, lets_go_requests, lets_go_sleep, one_output, one_result, owes, told_of_cancel, told_of_drop, told_of_end, told_of_fire, told_of_forward, told_of_timer_forward, waker_of, without_request, woken_where_awaited}}
 use Rattle.exec_settled.proofs.TellsEvents.{drops, dropped_observed, one_dropped}

@@ -1,10 +1,8 @@
 -- Of the two workers of the worked examples: where each is, by its number.
-use Rattle.std.proofs.Common.{◌≡◌, ℕ, zero, suc, Bool, true, false, None, refl, sym, ◌∙◌}
-use Rattle.std.proofs.lemmas.{Bool.false≢true, Option.none-some}
+use Rattle.std.proofs.{Common.{◌≡◌, ℕ, zero, suc, Bool, true, false, None, refl, sym, ◌∙◌}, lemmas.{Bool.false≢true, Option.none-some}}
 use Rattle.exec_machine.specs.World.{World}
 use Rattle.exec_moves.specs.{declared.{handing.CallPlace.CallPlace, idling.InWordWait.InWordWait, place.Place.Place}, Call.no_call, Plays.{Playing, caller_of}, State.Things}
-use Rattle.exec_rest.specs.{Examples.{rested, two_waiting}, Rested.place_at}
-use Rattle.exec_rest.proofs.{First.of_equal, TwoAsleep.{nobody, place}}
+use Rattle.exec_rest.{specs.{Examples.{rested, two_waiting}, Rested.place_at}, proofs.{First.of_equal, TwoAsleep.{nobody, place}}}
 use Rattle.exec_settled.specs.{Given.passes_at, Parked.IsBeingWoken, Permits.hands_to}
 
 -- what is so of both, and of all numbers past them

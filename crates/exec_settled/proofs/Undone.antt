@@ -1,10 +1,7 @@
 -- Where nothing is due, and nothing of a request is to be done.
-use Rattle.std.proofs.Common.{◌≡◌, ℕ, ◌==◌, ◌&&◌, ◌||◌, Bool, true, false, not, List, [], ◌∷◌, get_or, Option, Some, if◌then◌else◌, refl, arith}
-use Rattle.std.proofs.lemmas.Bool.{false≢true, and_right}
-use Rattle.std.specs.Prelude.{nat_le}
-use Rattle.std.specs.List.{list_any, list_all}
-pub use Rattle.std.proofs.lemmas.Bool.{false_from_ne_true}
+use Rattle.std.{proofs.{Common.{◌≡◌, ℕ, ◌==◌, ◌&&◌, ◌||◌, Bool, true, false, not, List, [], ◌∷◌, get_or, Option, Some, if◌then◌else◌, refl, arith}, lemmas.Bool.{false≢true, and_right}}, specs.{Prelude.nat_le, List.{list_any, list_all}}}
 use Rattle.exec_machine.specs.{declared.state.{Request.Request, Sleeper.Sleeper}, Deadlines.{earlier, first_timer, first_until, is_after, is_due}, Tests.{is_asleep, is_resolved}, World.{no_request, no_sleeper}}
+pub use Rattle.std.proofs.lemmas.Bool.{false_from_ne_true}
 
 -- NOTHING IS DUE
 

@@ -3,8 +3,7 @@
 -- A task waits for a request or a sleeper. Where it does so on that one's own worker, that worker wakes it as the thing ends.
 -- Where it does so elsewhere it says so by a message; once that is applied the end is sent to it, and it is woken after that.
 use Rattle.std.specs.Prelude.{◌≡◌, ℕ, true, false, ◌||◌, ◌⊎◌}
-use Rattle.exec_machine.specs.{declared.{config.Configuration.Configuration, state.{Forwarding.TheVariants.{Applied, Unsent}}}, Progress.is_runnable, Tests.{is_ready, is_resolved}, World.{Common, request_of, sleeper_of, task_of}}
-use Rattle.exec_machine.specs.declared.state.Waiting.TheVariants as waiting
+use Rattle.exec_machine.specs.{declared.{config.Configuration.Configuration, state.{Forwarding.TheVariants.{Applied, Unsent}, Waiting.Waiting as waiting}}, Progress.is_runnable, Tests.{is_ready, is_resolved}, World.{Common, request_of, sleeper_of, task_of}}
 use Rattle.exec_moves.specs.{declared.{handing.{AfterCallbacks.AfterCallbacks, Heard.Heard}, place.{InCallbacks.InCallbacks, InPoll.InPoll, Place.Place}}, Plays.{Playing, desk_of}, Poll.is_noted, Told.has_number}
 use Rattle.exec_rest.specs.Rested.{place_at}
 use Rattle.exec_settled.specs.Given.{WaitsFor}

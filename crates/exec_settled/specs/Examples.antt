@@ -1,14 +1,12 @@
 -- States to look at: workers that sleep, on a ring or on wake words, with one thing changed.
 use Rattle.std.specs.Prelude.{true, [], ◌∷◌, ◌++◌, Some, None, slice_set}
 use Rattle.exec_outcomes.specs.declared.outcome.Outcome.TheVariants.{Success}
-use Rattle.exec_machine.specs.{declared.state.{Forwarding.TheVariants.Applied, Request.Request, Rest.TheVariants.Awake, Sleeper.Sleeper}, Deadlines.new_sleeper, Tasks.new_task, Tests.set_request, World.{Open, Seat, Task, World, no_open, seat_of, task_of}}
-use Rattle.exec_machine.specs.declared.state.Code.TheVariants.{Script}
-use Rattle.exec_machine.specs.declared.state.RequestPhase.TheVariants as phase
-use Rattle.exec_machine.specs.declared.state.Waiting.TheVariants as waiting
-use Rattle.exec_machine.specs.declared.state.WorkerPhase.TheVariants.{Closing, Ended}
-use Rattle.exec_moves.specs.{declared.place.Place.{Place}, MailLogs.a_write, Plays.{Playing, desk_of}, State.{Desk, no_queue, no_word}, Thing.{set_queue, set_word}}
+use Rattle.exec_machine.specs.{declared.state.{Forwarding.TheVariants.Applied, Request.Request, Rest.TheVariants.Awake, Sleeper.Sleeper, Code.TheVariants.Script, WorkerPhase.TheVariants.{Closing, Ended}}, Deadlines.new_sleeper, Tasks.new_task, Tests.set_request, World.{Open, Seat, Task, World, no_open, seat_of, task_of}}
+use Rattle.exec_moves.specs.{declared.place.Place.Place, MailLogs.a_write, Plays.{Playing, desk_of}, State.{Desk, no_queue, no_word}, Thing.{set_queue, set_word}}
 use Rattle.exec_books.specs.Examples.{its_own, its_request, its_seat, one_asleep, with_own, with_seat}
 use Rattle.exec_rest.specs.Examples.{rested, two_waiting}
+use Rattle.exec_machine.specs.declared.state.RequestPhase.TheVariants as phase
+use Rattle.exec_machine.specs.declared.state.Waiting.TheVariants as waiting
 
 -- a worker that sleeps on its ring, in another world
 abbrev pub on_ring : World → Playing

@@ -1,8 +1,7 @@
 -- WHAT THE LAW TAKES FOR GRANTED of each state, beside what holds by the moves: of whoever's parts say the same.
 use Rattle.std.specs.Prelude.{◌≡◌, ℕ, suc, ◌<◌, Bool, true, false, ◌&&◌, List, [], ◌∷◌, length, slice_get, Option, Some, None, if◌then◌else◌}
 use Rattle.exec_outcomes.specs.Accounts.{is_durable}
-use Rattle.exec_machine.specs.{declared.{config.Configuration.Configuration, state.{Request.Request, Waiting.Waiting}}, Tests.{is_closing, is_done, is_gated, is_open, is_resolved}, World.{Common, own_of, open_of, request_of, seat_of, sleeper_of, task_of}}
-use Rattle.exec_machine.specs.declared.state.Waiting.TheVariants as waiting
+use Rattle.exec_machine.specs.{declared.{config.Configuration.Configuration, state.{Request.Request, Waiting.{Waiting, Waiting as waiting}}}, Tests.{is_closing, is_done, is_gated, is_open, is_resolved}, World.{Common, own_of, open_of, request_of, seat_of, sleeper_of, task_of}}
 use Rattle.exec_moves.specs.{declared.{idling.{AfterWait.AfterWait, InRingWait.InRingWait}, place.{InPoll.InPoll, InService.InService, Place.Place}}, Plays.{Playing, desk_of}, Seen.{next_at, polls_at}, Slots.{is_in_slots, numbers_in}, State.gate_of, Told.has_number}
 use Rattle.exec_books.specs.Booked.{FirstIsOwn}
 use Rattle.exec_rest.specs.{AtRest.stays_closing, Places.is_abed, Rested.place_at}

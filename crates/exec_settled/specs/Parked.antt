@@ -5,10 +5,7 @@
 -- that kind: so of each worker that sleeps by itself it is said here that nothing is left for it to do. In between, while it is
 -- being woken, it is known whose step comes next.
 use Rattle.std.specs.Prelude.{◌≡◌, ◌≢◌, ℕ, ◌<◌, Bool, true, false, ◌||◌, ◌⊎◌, [], length, nat_lt, slice_get, Some, None}
-use Rattle.exec_machine.specs.{declared.{config.Configuration.Configuration}, Progress.{has_to_close, is_cancel_untold, is_request_unfinished, is_runnable, is_sleeper_unfinished}, Ranges.ring_size, Tests.{has_ended, is_closing, is_done, is_flying, is_gated, is_landed, is_open, is_queued, is_resolved, is_staged}, World.{Common, Task, open_of, own_of, request_of, seat_of, sleeper_of, task_of}}
-use Rattle.exec_machine.specs.declared.state.Forwarding.TheVariants.{Sent}
-use Rattle.exec_machine.specs.declared.state.MailMessage.TheVariants as message
-use Rattle.exec_machine.specs.declared.state.Waiting.TheVariants as waiting
+use Rattle.exec_machine.specs.{declared.{config.Configuration.Configuration, state.{Forwarding.TheVariants.Sent, MailMessage.MailMessage as message, Waiting.Waiting as waiting}}, Progress.{has_to_close, is_cancel_untold, is_request_unfinished, is_runnable, is_sleeper_unfinished}, Ranges.ring_size, Tests.{has_ended, is_closing, is_done, is_flying, is_gated, is_landed, is_open, is_queued, is_resolved, is_staged}, World.{Common, Task, open_of, own_of, request_of, seat_of, sleeper_of, task_of}}
 use Rattle.exec_moves.specs.{declared.place.{InPoll.InPoll, Place.Place}, Plays.{Playing, caller_of, desk_of}, State.queue_of}
 use Rattle.exec_rest.specs.{Places.is_in_call, Rested.{IsOwed, IsRaised, IsSignalled, is_in_pool, is_latched, place_at, sleeps}}
 use Rattle.exec_books.specs.{Booked.{AreLinedUp, IsLed, IsUnderWay}, Listed.AreListed}

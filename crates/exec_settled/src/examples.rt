@@ -2,30 +2,13 @@
 
 ghost use Rattle.std.specs.Prelude.{◌≡◌, true, false, [], ◌∷◌, Some, None};
 ghost use Rattle.exec_outcomes.specs.declared.outcome.Outcome.TheVariants.{Success};
-ghost use Rattle.exec_machine.specs.{Deadlines.new_sleeper, Progress.IsRightlyAsleep, Tasks.new_seat, World.{no_open, seat_of}};
-ghost use Rattle.exec_machine.specs.declared.state.Forwarding.TheVariants.{Applied, Sent};
-ghost use Rattle.exec_machine.specs.declared.state.RequestPhase.TheVariants.{Flying, Queued, Resolved, Staged};
-ghost use Rattle.exec_machine.specs.declared.state.TaskPhase.TheVariants as task;
-ghost use Rattle.exec_machine.specs.declared.state.WorkerPhase.TheVariants.{Ended};
-ghost use Rattle.exec_moves.specs.{Call.no_call, MailLogs.a_write, State.no_queue, Thing.set_queue};
-ghost use Rattle.exec_moves.specs.declared.handing.{AfterSignal.{AfterSignal}, InSignal.TheVariants.{Raise, SetLatch}};
-ghost use Rattle.exec_moves.specs.declared.idling.AfterWait.{AfterWait, TheVariants.Begin};
-ghost use Rattle.exec_moves.specs.declared.idling.{InRingWait.InRingWait, InWordWait.InWordWait};
-ghost use Rattle.exec_moves.specs.declared.idling.InRingWait.TheVariants as ring;
-ghost use Rattle.exec_moves.specs.declared.idling.Stay.{Stay};
-ghost use Rattle.exec_moves.specs.declared.idling.Stay.TheVariants as stay;
-ghost use Rattle.exec_moves.specs.declared.place.{AfterPermit.AfterPermit, Service.Service};
-ghost use Rattle.exec_moves.specs.declared.place.AfterService.TheVariants as back;
-ghost use Rattle.exec_moves.specs.declared.place.InService.TheVariants as service;
-ghost use Rattle.exec_moves.specs.declared.place.Place.TheVariants as at;
+ghost use Rattle.exec_machine.specs.{Deadlines.new_sleeper, Progress.IsRightlyAsleep, Tasks.new_seat, World.{no_open, seat_of}, declared.state.{Forwarding.TheVariants.{Applied, Sent}, RequestPhase.TheVariants.{Flying, Queued, Resolved, Staged}, TaskPhase.TaskPhase as task, WorkerPhase.TheVariants.Ended}};
+ghost use Rattle.exec_moves.specs.{Call.no_call, MailLogs.a_write, State.no_queue, Thing.set_queue, declared.{handing.{AfterSignal.AfterSignal, InSignal.TheVariants.{Raise, SetLatch}}, idling.{AfterWait.{AfterWait, TheVariants.Begin}, InRingWait.InRingWait, InWordWait.InWordWait, Stay.{Stay, Stay as stay}}, place.{AfterPermit.AfterPermit, Service.Service, InService.InService as service, Place.Place as at}}};
 ghost use Rattle.exec_books.specs.Examples.{one_asleep, one_send, its_own, its_request, with_own};
-ghost use Rattle.exec_rest.specs.Examples.{rested, two_waiting, with_a_latch, with_a_message, with_a_runnable};
-ghost use Rattle.exec_settled.specs.{Awaited.IsAwaited, Given.{IsGiven, NobodyWaitsInVain, passes_at}, Parked.{IsBeingWoken, IsHeldUp, IsParked, NobodySleepsOnWork, NoneIsForgotten}};
-ghost use Rattle.exec_settled.specs.Permits.{IsPermitted, hands_to, is_past};
-ghost use Rattle.exec_rest.specs.AtRest.{stays_closing};
-ghost use Rattle.exec_settled.specs.Settled.{HaveLetGo, IsSettled, ends_ring_wait};
-ghost use Rattle.exec_settled.specs.Examples.{acting, closing_with, ended_with, its_root, on_ring, second, sleeps_here, two_sends, waits_elsewhere, waits_for};
-ghost use Rattle.exec_settled.specs.Examples.{waits_here, with_permit, with_permit_told, with_queue, with_root, with_second, with_sleeper, with_task, with_two_writes, with_write};
+ghost use Rattle.exec_rest.specs.{Examples.{rested, two_waiting, with_a_latch, with_a_message, with_a_runnable}, AtRest.stays_closing};
+ghost use Rattle.exec_settled.specs.{Awaited.IsAwaited, Given.{IsGiven, NobodyWaitsInVain, passes_at}, Parked.{IsBeingWoken, IsHeldUp, IsParked, NobodySleepsOnWork, NoneIsForgotten}, Permits.{IsPermitted, hands_to, is_past}, Settled.{HaveLetGo, IsSettled, ends_ring_wait}, Examples.{acting, closing_with, ended_with, its_root, on_ring, second, sleeps_here, two_sends, waits_elsewhere, waits_for, waits_here, with_permit, with_permit_told, with_queue, with_root, with_second, with_sleeper, with_task, with_two_writes, with_write}};
+ghost use Rattle.exec_moves.specs.declared.idling.InRingWait.TheVariants as ring;
+ghost use Rattle.exec_moves.specs.declared.place.AfterService.TheVariants as back;
 
 /// What is known of a worker by its place. In the service of a turn it has passed the gate of open 0 once it is to look
 /// at gate 1, not before, and so in that of a worker that closes; in any other service it hasn't, since another turn comes

@@ -1,18 +1,11 @@
 -- Shutdown waits for the kernel alone: by what each state has.
-use Rattle.std.proofs.Common.{◌≡◌, ◌≢◌, ℕ, suc, ◌<◌, ◌==◌, ◌&&◌, ◌||◌, Bool, true, false, not, List, [], ◌∷◌, length, get_or, cond, Some, None, ◌∙◌, refl, sym, ap, subst, arith, inl, inr}
-use Rattle.std.proofs.lemmas.Bool.{true≢false, false≢true, and_parts, cases_Bool, cases_lt, eqb-true, false_from_ne_true}
-use Rattle.std.proofs.lemmas.{List.{get_or_past, Sums.sum_by-cons}, Option.{get_or_from_slice_get, none-some, slice_get_cases}}
-use Rattle.std.specs.Prelude.{◌⊎◌, nat_lt, unwrap_or}
-use Rattle.std.specs.List.{list_all}
-use Rattle.exec_machine.specs.{declared.{config.Configuration.Configuration, state.{Next.Next, Request.Request, RequestPhase.RequestPhase, WorkerPhase.WorkerPhase}}, Callers.{is_half_done, is_held, may_work}, Mail.has_root_message, Progress.is_runnable, Ranges.ring_size, Tests.{all_left, has_ended, is_awake, is_closing, is_done, is_flying, is_in_flight, is_landed, is_open, is_resolved, is_staged}, World.{Common, Own as Books, Seat, Task, no_request, no_seat, no_task, open_of, own_of, request_of, seat_of, task_of}}
-use Rattle.exec_machine.specs.declared.state.Next.TheVariants as next
+use Rattle.std.{proofs.{Common.{◌≡◌, ◌≢◌, ℕ, suc, ◌<◌, ◌==◌, ◌&&◌, ◌||◌, Bool, true, false, not, List, [], ◌∷◌, length, get_or, cond, Some, None, ◌∙◌, refl, sym, ap, subst, arith, inl, inr}, lemmas.{Bool.{true≢false, false≢true, and_parts, cases_Bool, cases_lt, eqb-true, false_from_ne_true}, List.{get_or_past, Sums.sum_by-cons}, Option.{get_or_from_slice_get, none-some, slice_get_cases}}}, specs.{Prelude.{◌⊎◌, nat_lt, unwrap_or}, List.list_all}}
+use Rattle.exec_machine.specs.{declared.{config.Configuration.Configuration, state.{Next.{Next, Next as next}, Request.Request, RequestPhase.RequestPhase, WorkerPhase.WorkerPhase}}, Callers.{is_half_done, is_held, may_work}, Mail.has_root_message, Progress.is_runnable, Ranges.ring_size, Tests.{all_left, has_ended, is_awake, is_closing, is_done, is_flying, is_in_flight, is_landed, is_open, is_resolved, is_staged}, World.{Common, Own as Books, Seat, Task, no_request, no_seat, no_task, open_of, own_of, request_of, seat_of, task_of}}
 use Rattle.exec_moves.specs.{declared.place.{InClosing.InClosing, Place.Place}, Plays.{Playing, caller_of, first_desk}, Seen.next_at, State.Desk}
 use Rattle.exec_books.specs.Booked.{IsBooked, flying_of}
-use Rattle.exec_rest.specs.{AtRest.{IsPlaced, is_end}, Places.{is_abed, owes_nothing, raises, signals}, Rested.{IsRestful, Someone, place_at}}
-use Rattle.exec_rest.proofs.Rest.{NoCall, all_at, calls_none, owes_parts, some_at_all}
-use Rattle.exec_settled.specs.{Given.{IsGiven, passes_at}, Parked.{HasNothingToDo, IsBeingWoken, IsHeldUp, IsParked, NobodySleepsOnWork}, Permits.{hands_to}}
+use Rattle.exec_rest.{specs.{AtRest.{IsPlaced, is_end}, Places.{is_abed, owes_nothing, raises, signals}, Rested.{IsRestful, Someone, place_at}}, proofs.Rest.{NoCall, all_at, calls_none, owes_parts, some_at_all}}
+use Rattle.exec_settled.{specs.{Given.{IsGiven, passes_at}, Parked.{HasNothingToDo, IsBeingWoken, IsHeldUp, IsParked, NobodySleepsOnWork}, Permits.hands_to}, proofs.{Parked.holder_going, Resting.has_let_go, Undone.false_from_ne_true}}
 use Rattle.exec_shutdown.specs.{Shutdown.{ShutsDown, is_at_standstill}, Stopping.{StopsAll, is_waiting, owes_root}}
-use Rattle.exec_settled.proofs.{Parked.holder_going, Resting.has_let_go, Undone.false_from_ne_true}
 
 -- PLACES at which a worker has nothing to do for others: it sleeps, has ended or not begun, or closes its mailbox next
 

@@ -1,15 +1,10 @@
 -- Each line of a run lets a stop come to each worker of the pool.
-use Rattle.std.proofs.Common.{◌≡◌, ◌≢◌, ℕ, zero, suc, ◌<◌, ◌+◌, Bool, true, false, not, ◌&&◌, ◌||◌, List, [], ◌∷◌, ◌++◌, length, Some, None, refl, sym, ap, ◌∙◌, subst, inl, inr, arith, get_or, replicate}
-use Rattle.std.proofs.lemmas.Bool.{true≢false, false≢true, and_parts, cases_eq, false_from_ne_true, not-true, or_cases, or_left, or_right}
-use Rattle.std.proofs.lemmas.List.{get_or_append_left, get_or-set_other, length-set}
-use Rattle.std.specs.Prelude.{◌⊎◌}
-use Rattle.exec_machine.specs.{declared.{config.Configuration.Configuration, event.{Event.Event, StepResult.{StepResult, TheVariants.{Refused, Did}}}, state.{Next.Next, TaskPhase.TaskPhase}, step.Action.{Action, TheVariants.Work}}, After.{after, made_by, own_after}, Allowed.Allowed, Callers.{is_enabled, is_held}, Choice.Choice, Mail.has_root_message, Progress.{Plan, begin}, Run.{Follows, after_line, first_owns, first_tasks}, Tasks.new_seat, Tests.{all_left, has_ended, is_awake, is_closing, is_done, is_idle, is_open}, World.{Common, Own as Books, Seat, Task, World, no_own, no_seat, no_task, own_of, seat_of, task_of}}
-use Rattle.exec_machine.specs.declared.event.Event.TheVariants as event
-use Rattle.exec_machine.specs.declared.state.Next.TheVariants as next
+use Rattle.std.{proofs.{Common.{◌≡◌, ◌≢◌, ℕ, zero, suc, ◌<◌, ◌+◌, Bool, true, false, not, ◌&&◌, ◌||◌, List, [], ◌∷◌, ◌++◌, length, Some, None, refl, sym, ap, ◌∙◌, subst, inl, inr, arith, get_or, replicate}, lemmas.{Bool.{true≢false, false≢true, and_parts, cases_eq, false_from_ne_true, not-true, or_cases, or_left, or_right}, List.{get_or_append_left, get_or-set_other, length-set}}}, specs.Prelude.◌⊎◌}
+use Rattle.exec_machine.specs.{declared.{config.Configuration.Configuration, event.{Event.{Event, Event as event}, StepResult.{StepResult, TheVariants.{Refused, Did}}}, state.{Next.Next, TaskPhase.TaskPhase}, step.Action.{Action, TheVariants.Work}}, After.{after, made_by, own_after}, Allowed.Allowed, Callers.{is_enabled, is_held}, Choice.Choice, Mail.has_root_message, Progress.{Plan, begin}, Run.{Follows, after_line, first_owns, first_tasks}, Tasks.new_seat, Tests.{all_left, has_ended, is_awake, is_closing, is_done, is_idle, is_open}, World.{Common, Own as Books, Seat, Task, World, no_own, no_seat, no_task, own_of, seat_of, task_of}}
 use Rattle.exec_rest.proofs.{FactsA.seated, First.of_equal}
-use Rattle.exec_shutdown.specs.Stopping.{StopsAll, WaitsForStop, is_running, is_waiting, owes_root, waits_for_wake}
+use Rattle.exec_shutdown.{specs.Stopping.{StopsAll, WaitsForStop, is_running, is_waiting, owes_root, waits_for_wake}, proofs.{StoppingOthers.stops_by_other, StoppingOwn.{begins, begins_open, letters_there, owes_nothing, polls_none, rests_owing, root_stays}, StoppingSeats.{Sits, all_still, closes, closing_shut, goes_to_rest, held_before, is_through, seats_after}, StoppingSteps.{barred_then, next_then, owes_then, root_woken, stopped_still, stopped_then}, StoppingTasks.{Patient, tasks_after}}}
 use Rattle.exec_books.proofs.CountedOwn.{own_own}
-use Rattle.exec_shutdown.proofs.{StoppingOthers.stops_by_other, StoppingOwn.{begins, begins_open, letters_there, owes_nothing, polls_none, rests_owing, root_stays}, StoppingSeats.{Sits, all_still, closes, closing_shut, goes_to_rest, held_before, is_through, seats_after}, StoppingSteps.{barred_then, next_then, owes_then, root_woken, stopped_still, stopped_then}, StoppingTasks.{Patient, tasks_after}}
+use Rattle.exec_machine.specs.declared.state.Next.TheVariants as next
 
 -- OWN PARTS OF OTHERS
 

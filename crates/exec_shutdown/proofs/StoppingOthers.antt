@@ -1,14 +1,10 @@
 -- A step that is no worker's changes no own part, and leaves of seats and tasks what a stop needs.
-use Rattle.std.proofs.Common.{◌≡◌, ℕ, ◌+◌, true, not, ◌||◌, [], ◌∷◌, ◌++◌, None, refl, sym, ap, ◌∙◌, inl, inr, arith, set}
-use Rattle.std.proofs.lemmas.Bool.{false≢true, or_cases, or_left, or_right}
+use Rattle.std.proofs.{Common.{◌≡◌, ℕ, ◌+◌, true, not, ◌||◌, [], ◌∷◌, ◌++◌, None, refl, sym, ap, ◌∙◌, inl, inr, arith, set}, lemmas.Bool.{false≢true, or_cases, or_left, or_right}}
 use Rattle.exec_outcomes.specs.declared.outcome.OpResult.{OpResult}
-use Rattle.exec_machine.specs.{declared.{config.Configuration.Configuration, event.Event.Event, state.{Code.TheVariants.Script, MailMessage.MailMessage, Rest.Rest}, step.Action.{Action, TheVariants.Work}}, Callers.{after_clock, after_going_on, after_landing, common_by}, Choice.Choice, Deadlines.roused_at, Mail.{after_post, has_root_message}, Run.after_event, Tasks.new_task, Tests.{has_ended, is_awake, is_open}, World.{Common, Seat, World, no_seat, own_of, request_of, seat_of}}
-use Rattle.exec_machine.specs.declared.step.Action.TheVariants as action
-use Rattle.exec_machine.specs.declared.event.Event.TheVariants as event
-use Rattle.exec_machine.specs.declared.state.Rest.TheVariants as rest
-use Rattle.exec_shutdown.specs.Stopping.{StopsAll, owes_root}
+use Rattle.exec_machine.specs.{declared.{config.Configuration.Configuration, event.Event.{Event, Event as event}, state.{Code.TheVariants.Script, MailMessage.MailMessage, Rest.Rest}, step.Action.{Action, TheVariants.Work, Action as action}}, Callers.{after_clock, after_going_on, after_landing, common_by}, Choice.Choice, Deadlines.roused_at, Mail.{after_post, has_root_message}, Run.after_event, Tasks.new_task, Tests.{has_ended, is_awake, is_open}, World.{Common, Seat, World, no_seat, own_of, request_of, seat_of}}
+use Rattle.exec_shutdown.{specs.Stopping.{StopsAll, owes_root}, proofs.{StoppingSeats.{all_still, held_before, AllFirm, Firm, firm, firm_then, post_firm, roused_firm, seat_set, seats_same, through_still}, StoppingTasks.{AllPatient, one_more, post_same, none_changed, unchanged, wake_on}}}
 use Rattle.exec_books.proofs.CountedTurns.{each_map}
-use Rattle.exec_shutdown.proofs.{StoppingSeats.{all_still, held_before, AllFirm, Firm, firm, firm_then, post_firm, roused_firm, seat_set, seats_same, through_still}, StoppingTasks.{AllPatient, one_more, post_same, none_changed, unchanged, wake_on}}
+use Rattle.exec_machine.specs.declared.state.Rest.TheVariants as rest
 
 -- WHAT IT LEAVES
 

@@ -1,18 +1,10 @@
 -- What an event leaves of the own part of each worker, as far as stopping goes: its root, the task that it polls, what its next
 -- line has to do, and the messages that it has to send.
-use Rattle.std.proofs.Common.{◌≡◌, ◌≢◌, ℕ, zero, suc, ◌<◌, ◌≤◌, ◌+◌, ◌-◌, ◌==◌, Bool, true, false, ◌&&◌, ◌||◌, List, [], ◌∷◌, ◌++◌, Option, Some, None, refl, sym, ap, ◌∙◌, inl, inr, arith, if◌then◌else◌}
-use Rattle.std.proofs.lemmas.Bool.{true≢false, false≢true, cases_Bool, eqb-false, not-true, or_left, or_right}
-use Rattle.std.proofs.lemmas.List.{Folds.list_any-append}
-use Rattle.std.specs.Prelude.{drop}
-use Rattle.std.specs.List.{list_any}
+use Rattle.std.{proofs.{Common.{◌≡◌, ◌≢◌, ℕ, zero, suc, ◌<◌, ◌≤◌, ◌+◌, ◌-◌, ◌==◌, Bool, true, false, ◌&&◌, ◌||◌, List, [], ◌∷◌, ◌++◌, Option, Some, None, refl, sym, ap, ◌∙◌, inl, inr, arith, if◌then◌else◌}, lemmas.{Bool.{true≢false, false≢true, cases_Bool, eqb-false, not-true, or_left, or_right}, List.Folds.list_any-append}}, specs.{Prelude.drop, List.list_any}}
 use Rattle.exec_outcomes.specs.declared.outcome.Outcome.{Outcome}
-use Rattle.exec_machine.specs.declared.{config.Configuration.Configuration, event.Event.Event, state.{Letter.Letter, MailMessage.{MailMessage, TheVariants.Root}, Operation.Operation, Waiting.Waiting}}
-use Rattle.exec_machine.specs.{After.{own_after, own_by}, Allowed.Allowed, Choice.{Choice}, Closing.{ends_by_clear, letters_to_roots, own_after_clear, own_after_turn}, Deadlines.sampled_now, Mail.{own_after_apply, own_after_letter}, Requests.{own_after_admit, own_after_drop}, Same.{is_letter, is_none, is_number}, Tasks.{own_after_drops, own_after_over, own_after_waking_up, owes}, Tests.is_open, World.{Common, Own as Books, request_of, seat_of, sleeper_of, task_of}}
-use Rattle.exec_machine.specs.declared.event.Event.TheVariants as event
+use Rattle.exec_machine.specs.{declared.{config.Configuration.Configuration, event.Event.{Event, Event as event}, state.{Letter.Letter, MailMessage.{MailMessage, TheVariants.Root}, Operation.Operation, Waiting.{Waiting, Waiting as waiting}}}, After.{own_after, own_by}, Allowed.Allowed, Choice.Choice, Closing.{ends_by_clear, letters_to_roots, own_after_clear, own_after_turn}, Deadlines.sampled_now, Mail.{own_after_apply, own_after_letter}, Requests.{own_after_admit, own_after_drop}, Same.{is_letter, is_none, is_number}, Tasks.{own_after_drops, own_after_over, own_after_waking_up, owes}, Tests.is_open, World.{Common, Own as Books, request_of, seat_of, sleeper_of, task_of}}
+use Rattle.exec_shutdown.{specs.Stopping.owes_root, proofs.StoppingSeats.goes_to_rest}
 use Rattle.exec_machine.specs.declared.state.MailMessage.TheVariants as message
-use Rattle.exec_machine.specs.declared.state.Waiting.TheVariants as waiting
-use Rattle.exec_shutdown.specs.Stopping.{owes_root}
-use Rattle.exec_shutdown.proofs.StoppingSeats.{goes_to_rest}
 
 -- LETTERS
 

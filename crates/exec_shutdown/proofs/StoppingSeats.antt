@@ -1,18 +1,9 @@
 -- What an event of a worker leaves of each seat, as far as stopping goes.
-use Rattle.std.proofs.Common.{◌≡◌, ℕ, zero, suc, ◌<◌, Bool, true, false, not, ◌&&◌, ◌||◌, List, [], ◌∷◌, ◌++◌, length, Option, Some, None, refl, sym, ap, ◌∙◌, subst, inl, inr, arith, get_or, set, if◌then◌else◌}
-use Rattle.std.proofs.lemmas.Bool.{true≢false, false≢true, and_parts}
-use Rattle.std.specs.Prelude.{◌⊎◌, drop}
-use Rattle.std.specs.List.{list_all, list_any}
-use Rattle.exec_machine.specs.declared.{config.Configuration.Configuration, event.Event.Event, state.{MailMessage.MailMessage, Next.Next}}
-use Rattle.exec_machine.specs.{After.common_after, Allowed.Allowed, Callers.is_held, Choice.{Choice, Choice.{Plain, Passes, Pays, Posts}}, Closing.{after_next, with_closed_mailbox}, Deadlines.rest_until, Mail.{after_post, after_sending, has_root_message, is_first_message, is_left_out, is_root_message, posted}, Same.is_none, Tasks.new_seat, Tests.{all_left, has_ended, is_at_large, is_awake, is_closing, is_done, is_empty, is_open, is_settled}, World.{Common, Own as Books, Seat, no_seat, seat_of, task_of}}
-use Rattle.exec_machine.specs.declared.event.Event.TheVariants as event
-use Rattle.exec_machine.specs.declared.state.MailMessage.TheVariants as message
-use Rattle.exec_machine.specs.declared.state.Next.TheVariants as next
-use Rattle.exec_machine.specs.declared.state.Rest.TheVariants as rest
-use Rattle.exec_machine.specs.declared.state.WorkerPhase.{WorkerPhase}
-use Rattle.exec_machine.specs.declared.state.WorkerPhase.TheVariants as worker
+use Rattle.std.{proofs.{Common.{◌≡◌, ℕ, zero, suc, ◌<◌, Bool, true, false, not, ◌&&◌, ◌||◌, List, [], ◌∷◌, ◌++◌, length, Option, Some, None, refl, sym, ap, ◌∙◌, subst, inl, inr, arith, get_or, set, if◌then◌else◌}, lemmas.Bool.{true≢false, false≢true, and_parts}}, specs.{Prelude.{◌⊎◌, drop}, List.{list_all, list_any}}}
+use Rattle.exec_machine.specs.{declared.{config.Configuration.Configuration, event.Event.{Event, Event as event}, state.{MailMessage.{MailMessage, MailMessage as message}, Next.{Next, Next as next}, WorkerPhase.{WorkerPhase, WorkerPhase as worker}}}, After.common_after, Allowed.Allowed, Callers.is_held, Choice.{Choice, Choice.{Plain, Passes, Pays, Posts}}, Closing.{after_next, with_closed_mailbox}, Deadlines.rest_until, Mail.{after_post, after_sending, has_root_message, is_first_message, is_left_out, is_root_message, posted}, Same.is_none, Tasks.new_seat, Tests.{all_left, has_ended, is_at_large, is_awake, is_closing, is_done, is_empty, is_open, is_settled}, World.{Common, Own as Books, Seat, no_seat, seat_of, task_of}}
 use Rattle.exec_rest.proofs.Rest.{all_at}
 use Rattle.exec_books.proofs.{CountedSeats.{clear_same, in_front, message_same, pend_same, sending_same, wake_same, word_same}, CountedTurns.each_set}
+use Rattle.exec_machine.specs.declared.state.Rest.TheVariants as rest
 
 -- THE OWN PART of a worker that is at large
 

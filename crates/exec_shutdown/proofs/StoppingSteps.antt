@@ -1,19 +1,10 @@
 -- What an event leaves of what its worker has to do next and of what it owes, and when the pool is stopped.
-use Rattle.std.proofs.Common.{◌≡◌, ℕ, zero, suc, ◌<◌, ◌==◌, Bool, true, false, List, [], ◌∷◌, length, Option, Some, None, refl, sym, ap, ◌∙◌, subst, inl, inr, arith, get_or, set, if◌then◌else◌}
-use Rattle.std.proofs.lemmas.Bool.{true≢false, false≢true, and_parts, cases_Bool, eqb-true, not-true, or_cases}
-use Rattle.std.proofs.lemmas.List.{get_or-set_same}
-use Rattle.std.specs.Prelude.{◌⊎◌, drop, slice_get}
-use Rattle.std.specs.List.{list_any}
+use Rattle.std.{proofs.{Common.{◌≡◌, ℕ, zero, suc, ◌<◌, ◌==◌, Bool, true, false, List, [], ◌∷◌, length, Option, Some, None, refl, sym, ap, ◌∙◌, subst, inl, inr, arith, get_or, set, if◌then◌else◌}, lemmas.{Bool.{true≢false, false≢true, and_parts, cases_Bool, eqb-true, not-true, or_cases}, List.get_or-set_same}}, specs.{Prelude.{◌⊎◌, drop, slice_get}, List.list_any}}
 use Rattle.exec_outcomes.specs.declared.outcome.Outcome.{Outcome}
-use Rattle.exec_machine.specs.declared.{config.{Configuration.Configuration, ScriptWord.ScriptWord}, event.Event.Event, state.{Letter.Letter, MailMessage.{MailMessage, TheVariants.Root}, Next.Next, Operation.Operation, Waiting.Waiting}}
-use Rattle.exec_machine.specs.{After.{common_after, own_after}, Allowed.Allowed, Choice.{Choice, Choice.{Passes, Posts}}, Closing.{after_next, with_closed_mailbox}, Deadlines.sampled_now, Mail.{after_post, after_sending, has_root_message, is_left_out, is_root_message, own_after_apply, own_after_letter, posted}, Requests.{asked_now, own_after_admit}, Same.{is_letter, is_none}, Tasks.{polls_waiting, woken}, Tests.{is_closing, set_seat}, Words.acts, World.{Common, Own as Books, Seat, Task, no_seat, no_task, seat_of, task_of}}
-use Rattle.exec_machine.specs.declared.event.Event.TheVariants as event
-use Rattle.exec_machine.specs.declared.state.MailMessage.TheVariants as message
-use Rattle.exec_machine.specs.declared.state.Next.TheVariants as next
+use Rattle.exec_machine.specs.{declared.{config.{Configuration.Configuration, ScriptWord.ScriptWord}, event.Event.{Event, Event as event}, state.{Letter.Letter, MailMessage.{MailMessage, TheVariants.Root, MailMessage as message}, Next.{Next, Next as next}, Operation.Operation, Waiting.Waiting}}, After.{common_after, own_after}, Allowed.Allowed, Choice.{Choice, Choice.{Passes, Posts}}, Closing.{after_next, with_closed_mailbox}, Deadlines.sampled_now, Mail.{after_post, after_sending, has_root_message, is_left_out, is_root_message, own_after_apply, own_after_letter, posted}, Requests.{asked_now, own_after_admit}, Same.{is_letter, is_none}, Tasks.{polls_waiting, woken}, Tests.{is_closing, set_seat}, Words.acts, World.{Common, Own as Books, Seat, Task, no_seat, no_task, seat_of, task_of}}
 use Rattle.exec_rest.proofs.Others.{set_like}
-use Rattle.exec_shutdown.specs.Stopping.{is_waiting, owes_root, waits_for_wake}
+use Rattle.exec_shutdown.{specs.Stopping.{is_waiting, owes_root, waits_for_wake}, proofs.{StoppingOwn.{alike, clears, is_to, over, pends}, StoppingSeats.{takes_root, turns}, StoppingTasks.not_waiting}}
 use Rattle.exec_books.proofs.CountedSeats.{in_last, sending_same}
-use Rattle.exec_shutdown.proofs.{StoppingOwn.{alike, clears, is_to, over, pends}, StoppingSeats.{takes_root, turns}, StoppingTasks.not_waiting}
 
 -- WHAT THE NEXT LINE HAS TO DO
 

@@ -1,18 +1,12 @@
 -- What an event leaves of a task that waits until the pool is stopped: it does so still, is over if it was, and once the pool is
 -- stopped doesn't begin to wait.
-use Rattle.std.proofs.Common.{◌≡◌, ℕ, zero, suc, Bool, true, false, ◌&&◌, ◌||◌, List, [], ◌∷◌, ◌++◌, Option, Some, None, refl, sym, ap, ◌∙◌, subst, inl, inr, arith, get_or, set, unwrap_or, if◌then◌else◌}
-use Rattle.std.proofs.lemmas.Bool.{true≢false, false≢true, and_parts, cases_Bool}
-use Rattle.exec_outcomes.specs.declared.outcome.{OpResult.OpResult, Outcome.Outcome}
-use Rattle.exec_outcomes.specs.Outcomes.{refuses_hint}
-use Rattle.exec_machine.specs.declared.{config.{Configuration.Configuration, ScriptWord.ScriptWord}, event.Event.Event, state.{Code.TheVariants.Waits, MailMessage.MailMessage, TaskPhase.TaskPhase, Waiting.Waiting}}
-use Rattle.exec_machine.specs.{After.{common_after, polled}, Allowed.Allowed, Choice.{Choice, Payer, Choice.{Plain, Passes, Pays, Posts}, Payer.{ByRequest, BySleeper, ByAct, ByCall, ByStop}}, Closing.{after_clear, after_turn, ends_by_clear, with_cleared}, Mail.{after_apply, after_post, after_sending, awaiting, is_left_out, is_root_message}, Requests.{after_reap, asks_kind, judged_of, operation_asked}, Same.{is_none, is_number}, Tasks.{after_letting_go, after_over, after_payment, after_pend, after_taking, after_waking_word, after_wake, after_word, begun, begun_waiting, may_stop, pended_phase, wake, waits_for, without_newest, woken, woken_phase}, Tests.{is_done, is_idle, is_ready, is_woken, waits_for_nothing}, Words.{acts, asks_await, asks_yield, moved_on, newest_held, next_word, polled_task, sleep_asked}, World.{Common, Own as Books, Task, no_task, request_of, task_of}}
-use Rattle.exec_machine.specs.declared.config.ScriptWord.TheVariants as word
-use Rattle.exec_machine.specs.declared.event.Event.TheVariants as event
-use Rattle.exec_machine.specs.declared.state.MailMessage.TheVariants as message
-use Rattle.exec_machine.specs.declared.state.TaskPhase.TheVariants as phase
-use Rattle.exec_machine.specs.declared.state.Waiting.TheVariants as waiting
+use Rattle.std.proofs.{Common.{◌≡◌, ℕ, zero, suc, Bool, true, false, ◌&&◌, ◌||◌, List, [], ◌∷◌, ◌++◌, Option, Some, None, refl, sym, ap, ◌∙◌, subst, inl, inr, arith, get_or, set, unwrap_or, if◌then◌else◌}, lemmas.Bool.{true≢false, false≢true, and_parts, cases_Bool}}
+use Rattle.exec_outcomes.specs.{declared.outcome.{OpResult.OpResult, Outcome.Outcome}, Outcomes.refuses_hint}
+use Rattle.exec_machine.specs.{declared.{config.{Configuration.Configuration, ScriptWord.{ScriptWord, ScriptWord as word}}, event.Event.{Event, Event as event}, state.{Code.TheVariants.Waits, MailMessage.{MailMessage, MailMessage as message}, TaskPhase.TaskPhase, Waiting.Waiting}}, After.{common_after, polled}, Allowed.Allowed, Choice.{Choice, Payer, Choice.{Plain, Passes, Pays, Posts}, Payer.{ByRequest, BySleeper, ByAct, ByCall, ByStop}}, Closing.{after_clear, after_turn, ends_by_clear, with_cleared}, Mail.{after_apply, after_post, after_sending, awaiting, is_left_out, is_root_message}, Requests.{after_reap, asks_kind, judged_of, operation_asked}, Same.{is_none, is_number}, Tasks.{after_letting_go, after_over, after_payment, after_pend, after_taking, after_waking_word, after_wake, after_word, begun, begun_waiting, may_stop, pended_phase, wake, waits_for, without_newest, woken, woken_phase}, Tests.{is_done, is_idle, is_ready, is_woken, waits_for_nothing}, Words.{acts, asks_await, asks_yield, moved_on, newest_held, next_word, polled_task, sleep_asked}, World.{Common, Own as Books, Task, no_task, request_of, task_of}}
 use Rattle.exec_shutdown.specs.Stopping.{WaitsForStop, is_running, is_waiting, waits_for_wake}
 use Rattle.exec_books.proofs.CountedTurns.{each_set}
+use Rattle.exec_machine.specs.declared.state.TaskPhase.TheVariants as phase
+use Rattle.exec_machine.specs.declared.state.Waiting.TheVariants as waiting
 
 -- PHASES, AND WHAT IS WAITED FOR
 

@@ -1,8 +1,7 @@
 -- SHUTDOWN WAITS FOR THE KERNEL ALONE. Where nobody can take a step each worker sleeps or has ended: nobody is held at the shutdown
 -- barrier, since a stop comes to each worker that has not passed it. And where one of them is closing the kernel has an operation; that
 -- its own requests wait for such a one is said of whoever sleeps (`NobodySleepsOnWork.held_up`).
-use Rattle.std.specs.Prelude.{◌≡◌, ℕ, Bool, true, false, not, ◌&&◌}
-use Rattle.std.specs.List.{list_all}
+use Rattle.std.specs.{Prelude.{◌≡◌, ℕ, Bool, true, false, not, ◌&&◌}, List.list_all}
 use Rattle.exec_machine.specs.{Callers.{is_half_done, is_held, may_work}, Tests.{is_closing, is_flying}, World.{World, request_of, seat_of}}
 
 -- no worker may take a step, and no call is half done

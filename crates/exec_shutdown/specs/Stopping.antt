@@ -1,12 +1,8 @@
 -- A STOP COMES TO EACH WORKER OF THE POOL. Worker zero stops the pool as it closes, and then tells the root of each other one, which
 -- waits for nothing else and is over as soon as it looks. Nobody passes the shutdown barrier before that, and who has passed it
 -- polls nothing any more; a worker of the pool closes its mailbox and ends only once it has.
-use Rattle.std.specs.Prelude.{◌≡◌, ◌≢◌, ℕ, ◌<◌, Bool, true, false, not, ◌&&◌, ◌||◌, [], Some, None}
-use Rattle.std.specs.List.{list_any}
-use Rattle.exec_machine.specs.{declared.{config.Configuration.Configuration, state.{Code.TheVariants.Waits, MailMessage.TheVariants.Root, TaskPhase.TaskPhase, Waiting.Waiting}}, Callers.is_held, Mail.has_root_message, Same.is_letter, Tests.{has_ended, is_awake, is_done, is_idle, is_open, is_woken, waits_for_nothing}, World.{Own, Task, World, own_of, seat_of, task_of}}
-use Rattle.exec_machine.specs.declared.state.Next.TheVariants as next
-use Rattle.exec_machine.specs.declared.state.TaskPhase.TheVariants as phase
-use Rattle.exec_machine.specs.declared.state.Waiting.TheVariants as waiting
+use Rattle.std.specs.{Prelude.{◌≡◌, ◌≢◌, ℕ, ◌<◌, Bool, true, false, not, ◌&&◌, ◌||◌, [], Some, None}, List.list_any}
+use Rattle.exec_machine.specs.{declared.{config.Configuration.Configuration, state.{Code.TheVariants.Waits, MailMessage.TheVariants.Root, TaskPhase.{TaskPhase, TaskPhase as phase}, Waiting.{Waiting, Waiting as waiting}, Next.Next as next}}, Callers.is_held, Mail.has_root_message, Same.is_letter, Tests.{has_ended, is_awake, is_done, is_idle, is_open, is_woken, waits_for_nothing}, World.{Own, Task, World, own_of, seat_of, task_of}}
 
 abbrev pub waits_for_wake : Waiting → Bool
 waits_for_wake waiting.Wake = true

@@ -2,20 +2,15 @@
 
 ghost use Rattle.std.specs.Prelude.{◌≡◌, true, false, [], ◌∷◌, Some};
 ghost use Rattle.exec_outcomes.specs.declared.outcome.Outcome.TheVariants.{Success};
-ghost use Rattle.exec_machine.specs.{Closing.own_after_stop, Mail.posted, Tasks.{new_own, new_seat}};
-ghost use Rattle.exec_machine.specs.declared.state.{Code.TheVariants.Root, Rest.TheVariants.Forever};
-ghost use Rattle.exec_machine.specs.declared.state.MailMessage.TheVariants as message;
-ghost use Rattle.exec_machine.specs.declared.state.Next.TheVariants as next;
-ghost use Rattle.exec_machine.specs.declared.state.RequestPhase.TheVariants.{Resolved};
-ghost use Rattle.exec_machine.specs.declared.state.TaskPhase.TheVariants as task;
-ghost use Rattle.exec_machine.specs.declared.state.Waiting.TheVariants as waiting;
-ghost use Rattle.exec_machine.specs.declared.state.WorkerPhase.TheVariants.{Closing, Ended};
+ghost use Rattle.exec_machine.specs.{Closing.own_after_stop, Mail.posted, Tasks.{new_own, new_seat}, declared.state.{Code.TheVariants.Root, Rest.TheVariants.Forever, RequestPhase.TheVariants.Resolved, TaskPhase.TaskPhase as task, WorkerPhase.TheVariants.{Closing, Ended}}};
 ghost use Rattle.exec_moves.specs.Plays.{first_playing};
 ghost use Rattle.exec_books.specs.Examples.{its_request, one_asleep};
 ghost use Rattle.exec_rest.specs.Examples.{rested, two_waiting};
 ghost use Rattle.exec_settled.specs.Examples.{closing_with};
-ghost use Rattle.exec_shutdown.specs.{Shutdown.{ShutsDown, is_at_standstill}, Stopping.{StopsAll, WaitsForStop, is_waiting, owes_root}};
-ghost use Rattle.exec_shutdown.specs.Examples.{done_root, held, stopped_with, two, waiting_root};
+ghost use Rattle.exec_shutdown.specs.{Shutdown.{ShutsDown, is_at_standstill}, Stopping.{StopsAll, WaitsForStop, is_waiting, owes_root}, Examples.{done_root, held, stopped_with, two, waiting_root}};
+ghost use Rattle.exec_machine.specs.declared.state.MailMessage.TheVariants as message;
+ghost use Rattle.exec_machine.specs.declared.state.Next.TheVariants as next;
+ghost use Rattle.exec_machine.specs.declared.state.Waiting.TheVariants as waiting;
 
 /// The root of a worker that waits until the pool is stopped waits where it is idle, or its poll has begun to; not where it
 /// is queued, was woken in its poll, looks again, or is over. It holds nothing, and waits for nothing else. Worker zero, which

@@ -6,8 +6,7 @@
 
 ghost use Rattle.std.specs.Prelude.{◌≡◌, ℕ, ◌<◌, length, Some, None, IfOk, OnErr};
 ghost use Rattle.exec_base.specs.declared.error.Error.TheVariants.{NoMemory};
-ghost use Rattle.exec_task.specs.TaskSet.{held};
-ghost use Rattle.exec_task.specs.declared.body.Said.TheVariants as said;
+ghost use Rattle.exec_task.specs.{TaskSet.held, declared.body.Said.Said as said};
 ghost use Rattle.exec_moves.specs.{Poll.load_spawn_head, State.queue_of};
 ghost use Rattle.exec_parts.specs.{MailPosts.HaveMailboxes, Polls.OfSlot, Pooled.{Spawns, SpawnsNone, WakesOrdinary, WakesTask}, Tests.after_spawn_of, View.{desk_of, things_of}, Things.{Goes, Makes, TurnsSlot}};
 

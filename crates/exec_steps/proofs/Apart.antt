@@ -1,14 +1,13 @@
 -- A STEP OF ANOTHER PARTY keeps what is sound of a worker: it leaves what the worker alone touches, and of what is shared
 -- what it relies on.
-use Rattle.std.proofs.{Common.{◌≡◌, ℕ, ◌*◌, ◌^◌, ◌<◌, ◌≤◌, ◌&&◌, Bool, true, false, Contains, [], length, option_to_list, Option, Some, None, sym, ap, subst, ◌∙◌, ⊎_elim, arith, inl, inr, slice_get, ◌+◌}, lemmas.{Bool.{cases_lt}, Option.slice_get_within}}
+use Rattle.std.proofs.{Common.{◌≡◌, ℕ, ◌*◌, ◌^◌, ◌<◌, ◌≤◌, ◌&&◌, Bool, true, false, Contains, [], length, option_to_list, Option, Some, None, sym, ap, subst, ◌∙◌, ⊎_elim, arith, inl, inr, slice_get, ◌+◌}, lemmas.{Bool.cases_lt, Option.slice_get_within}}
 use Rattle.exec_base.specs.{Slab.IsPast, declared.slab.Id.Id}
 use Rattle.exec_request.specs.declared.request.Request.{Request as Asking}
 use Rattle.exec_waiters.specs.{Ids.user_data_of, States.{pending_count, waiter_at}, declared.waiter.Waiter.Waiter}
 use Rattle.exec_driver.specs.Footprints.{bytes_left}
-use Rattle.exec_task.specs.{TaskSet.shard_at, declared.{runnable.Runnable.Runnable}}
-use Rattle.exec_task.specs.TaskSet.{Set}
+use Rattle.exec_task.specs.{TaskSet.{shard_at, Set}, declared.runnable.Runnable.Runnable}
 use Rattle.exec_machine.specs.{declared.state.Waiting.Waiting, Tests.{has_ended, is_open}}
-use Rattle.exec_moves.specs.{Seen.polls_at, declared.{place.{InClosing.InClosing, InPoll.InPoll, Place.Place}}}
+use Rattle.exec_moves.specs.{Seen.polls_at, declared.place.{InClosing.InClosing, InPoll.InPoll, Place.Place}}
 use Rattle.exec_parts.{specs.{declared.parts.{mail.{Reply.Reply, Subject.Subject}, record.Record.Record, seat.Seat.Seat as Chair, shared.Shared.Shared, task_slot.TaskSlot.TaskSlot, worker.Worker.Worker}, Phased.{IsPhased, IsPrepared, closes_at, closing_in, has_left, has_stopped, root_over, stage_of}, Records.number_in, MailPosts.IsMailbox, View.driver_of}, proofs.Facts.by_number}
 use Rattle.exec_polling.specs.Calling.{HoldsForAll}
 use Rattle.exec_invariants.{specs.{Carried.{Carried, HasStretchFor, IsUnderWay}, Due.IsDue, Gates.{IsKnown, has_hint_at, may_ask_hint}, Holding.Mail, HoldPlaces.{cancels_at, heard_at, sends_cancel_at}, Places.{begins_at, is_armed_at, is_pooled_at, polled_in, step_of_poll}, Sound.{AreHome, HasGuest, HasLetters, HasQueue, HasRunnable, IsGuest, IsHeld, IsInTime, IsMyMail, IsSeated, IsTied, SoundAt, Stops, StopsIn, root_in_hand, served_in}, Spares.{Spares, SparesChair, SparesMore, SparesRecord}, Whole.IsGenuine}, proofs.{Dedicated.{by_length, chair_of_pool}, Spared.{KeepsMine, asleep_apart, flown_apart, heard_apart, letter_apart, mail_apart, named_apart, over_apart, record_back, rooted_apart, stops_apart, timed_apart}, SparedRecord.{sleepers_stay, live_of, there_within}}}

@@ -5,10 +5,8 @@ use Rattle.exec_driver.specs.Driving.{has_pending, is_full}
 use Rattle.exec_task.specs.declared.{body.Said.Said, runnable.Runnable.Runnable}
 use Rattle.exec_machine.specs.{declared.event.Event.{Event, TheVariants.Turn}, Choice.Choice.Plain, Progress.Plan}
 use Rattle.exec_moves.specs.{declared.{handing.AfterLeave.AfterLeave, idling.{AfterWait.AfterWait, InLook.InLook, InRingWait.InRingWait, InScan.InScan, InSearch.InSearch, InWordWait.InWordWait, Stay.Stay}, place.{AfterService.AfterService, Found.Found, Place.Place}}, Callback.{has_requests, serve}, Global.one_count_more, Load.{has_come, is_ready}, Look.{after_withdrawal, look_at_head, look_at_mirror, looks_from, past_own, publish, return_claimed, return_look_count, searching_if}, Move.move_at, Parts.after_return, State.{Desk, queue_of, turns}, Thing.{with_global, with_queue}, Wait.{first_search, read_clock, waits}}
-use Rattle.exec_invariants.proofs.Leaves.{not_read}
+use Rattle.exec_invariants.{proofs.{Leaves.{not_read, with_read}, DedicatedSeen.pool_seen, Dedicated.{never_apart, past_pool, pooled_here}, Counting.{Counts, counts_alone, counts_apart, counts_published, counts_same, counts_withdrawn, has_count, Stance, stance_at, stance_here, Stands}, Handed.{Between, leaves_seen, leaves_settle, ltb-true, ltb-false, next_seen, out, return_settles}, Idled.{calm_of, gone, led, Settles, settles_either}, NextDue.moment_seen, Standing.{requests_seen, submissions_seen}, Turning.queue_back_again}, specs.{Kinds.lowered, Places.{has_count_at, is_published_at, one_if, searches_at}, Sound.{has_wakes_at, IsSearching, SoundAt}, Whole.HasWhole, Works.{Steps, Suits}}}
 use Rattle.exec_parts.{specs.{Roles.is_pool, declared.parts.{seat.Seat.Seat as Chair, shared.Shared.Shared, worker.Worker.Worker}, Spots.Spot, Tests.{after_return_of, first_search_of, has_open_requests, is_within, IsLook, IsNextMoment, IsSearch, IsWait, leaves_turn_of, place_withdrawn}, View.{Views, common_of, desk_of, driver_of, own_of, tasks_of, things_of, things_with}, Things.{Goes, Makes}}, proofs.Facts.same_number}
-use Rattle.exec_invariants.proofs.Leaves.{with_read}
-use Rattle.exec_invariants.{specs.{Kinds.lowered, Places.{has_count_at, is_published_at, one_if, searches_at}, Sound.{has_wakes_at, IsSearching, SoundAt}, Whole.HasWhole, Works.{Steps, Suits}}, proofs.{DedicatedSeen.pool_seen, Dedicated.{never_apart, past_pool, pooled_here}, Counting.{Counts, counts_alone, counts_apart, counts_published, counts_same, counts_withdrawn, has_count, Stance, stance_at, stance_here, Stands}, Handed.{Between, leaves_seen, leaves_settle, ltb-true, ltb-false, next_seen, out, return_settles}, Idled.{calm_of, gone, led, Settles, settles_either}, NextDue.moment_seen, Standing.{requests_seen, submissions_seen}, Turning.queue_back_again}}
 use Rattle.exec_steps.proofs.Searching.{placed}
 
 turns_by : {T : Type 0} (b : Bool) (p q : Place) (d : Desk) (x : T) → (if b then turns p d x else turns q d x) ≡ turns (if b then p else q) d x

@@ -4,8 +4,7 @@ use Rattle.exec_task.specs.declared.body.Said.{Said}
 use Rattle.exec_machine.specs.{declared.{config.Configuration.Configuration, event.Event.{Event, TheVariants.Turn}}, Choice.Choice.Plain}
 use Rattle.exec_moves.specs.{declared.{handing.{AfterPop.AfterPop, First.First, InPop.InPop}, place.{Place.Place, InPick.InPick}}, Parts.{first_pop, has_others}, Pick.{after_empty_look, count_down, load_head, load_mirror, one_pick_less}, State.{Moved, Own, queue_of, turns}, Thing.with_global}
 use Rattle.exec_parts.specs.{Tests.first_pick_of, Roles.is_pool, declared.parts.{shared.Shared.Shared, worker.Worker.Worker}, Spots.Spot, View.{desk_of, things_of, things_with}, Things.{Makes, Goes}}
-use Rattle.exec_invariants.proofs.Showing.{own_queue_seen}
-use Rattle.exec_invariants.{specs.{Kinds.Kind, Sound.SoundAt, Works.Steps}, proofs.{DedicatedSeen.pool_seen, Aside.{loaded, went}, Turning.{GoesOn, Keeps, Lands, by_hand, lands_either, queue_back_again}}}
+use Rattle.exec_invariants.{proofs.{Showing.own_queue_seen, DedicatedSeen.pool_seen, Aside.{loaded, went}, Turning.{GoesOn, Keeps, Lands, by_hand, lands_either, queue_back_again}}, specs.{Kinds.Kind, Sound.SoundAt, Works.Steps}}
 
 module _ {B : Type 0} where
   -- the first step of a pop is of the kind of a pick

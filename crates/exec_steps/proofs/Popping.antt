@@ -5,8 +5,7 @@ use Rattle.exec_task.specs.declared.{body.Said.Said, drain.Drain.Drain, runnable
 use Rattle.exec_machine.specs.{declared.{config.Configuration.Configuration, event.Event.{Event, TheVariants.Turn}}, Progress.Plan, Tests.is_empty}
 use Rattle.exec_moves.specs.{declared.{handing.{AfterPop.AfterPop, First.First, InPop.InPop}, place.{InClosing.InClosing, InPick.InPick, InPoll.InPoll, Place.Place}}, Move.move_at, Parts.{first_pop, has_others}, Pop.{after_empty_pop, after_pop, drain_by, exchange_pop, judge_pop, load_pop_head, pops, same_head, shard_count}, State.{Moved, does, queue_of, turns}, Thing.with_queue}
 use Rattle.exec_parts.{specs.{declared.parts.{seat.Seat.Seat as Chair, shared.Shared.Shared, worker.Worker.Worker}, Phased.{TurnsChair, stage_of}, Pooled.{OfChair, polling, popped_if, popped_if_any, with_exchanged, with_judged, with_popped}, Spots.Spot, View.{Views, common_of, desk_of, own_of, queue_seen, things_of, things_with}}, proofs.Facts.{or_left, same_number}}
-use Rattle.exec_invariants.proofs.{Showing.own_queue_seen, Claiming.same_heads}
-use Rattle.exec_invariants.{specs.{Sound.{HasQueue, SoundAt}, Whole.{HasWhole, IsGenuine, IsWhole, Profile, may_let_go, queued, runnables_in, stock, with_worker}, Works.{Steps, Suits}}, proofs.{Onces.has_fewer, Queued.{hands_of, whole_queued}, Queueing.{Around, Carries, Reaches, around_own, hands_own, if_either, poses, requeued_own, seen_by, still_of, whole_handed}, Thieves.in_both, Turning.set_found, PopLeads.{pops_some, pops_none, loads_seen, and_parts, gap_popped, behind, more_than, not_none, begins_poll, no_root, set_closed, drains, phased_drain}}}
+use Rattle.exec_invariants.{proofs.{Showing.own_queue_seen, Claiming.same_heads, Onces.has_fewer, Queued.{hands_of, whole_queued}, Queueing.{Around, Carries, Reaches, around_own, hands_own, if_either, poses, requeued_own, seen_by, still_of, whole_handed}, Thieves.in_both, Turning.set_found, PopLeads.{pops_some, pops_none, loads_seen, and_parts, gap_popped, behind, more_than, not_none, begins_poll, no_root, set_closed, drains, phased_drain}}, specs.{Sound.{HasQueue, SoundAt}, Whole.{HasWhole, IsGenuine, IsWhole, Profile, may_let_go, queued, runnables_in, stock, with_worker}, Works.{Steps, Suits}}}
 
 module _ {B L : Type 0} (left : B → L) (spot : L → Option Said → Spot) (x : InPop) (w w' : Worker) (s s' : Shared B) (e : Event) (its : Chair) where
   -- what each step of a pop knows of its seat

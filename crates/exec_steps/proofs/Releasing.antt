@@ -2,11 +2,10 @@
 use Rattle.std.proofs.{Common.{◌≡◌, ◌≢◌, ℕ, ◌+◌, ◌<◌, ◌≤◌, ◌==◌, inl, inr, Bool, true, false, not, Contains, List, [], ◌++◌, length, Option, None, Some, refl, sym, ap, subst, ◌∙◌, arith, option_to_list, slice_get, slice_set}, lemmas.{Bool.{eq-eqb, Decides.nat_tests}, List.{length-append, length-set, Elements.{Contains-append_cases, Contains-append_left, Contains-append_right}}}}
 use Rattle.exec_words.specs.{Queue.{Queue, head_of, published, released, room_of, tail_of}, declared.head.Head.Head}
 use Rattle.exec_task.specs.declared.{body.Said.Said, runnable.Runnable.Runnable}
-use Rattle.exec_machine.specs.{declared.{event.Event.{Event, TheVariants.Turn}}, Choice.Choice.Plain}
-use Rattle.exec_moves.specs.{declared.{idling.{InScan.InScan}, place.Place.Place}, Pop.same_head, Seen.polls_at, Search.{release_half}, State.{Moved, queue_of, turns}, Thing.{set_queue, with_queue}}
+use Rattle.exec_machine.specs.{declared.event.Event.{Event, TheVariants.Turn}, Choice.Choice.Plain}
+use Rattle.exec_moves.specs.{declared.{idling.InScan.InScan, place.Place.Place}, Pop.same_head, Seen.polls_at, Search.release_half, State.{Moved, queue_of, turns}, Thing.{set_queue, with_queue}}
 use Rattle.exec_parts.{specs.{declared.parts.{seat.Seat.Seat as Chair, shared.Shared.Shared, worker.Worker.Worker}, Phased.{TurnsChair, stage_of}, Pooled.released_if, Spots.Spot, Tests.leaves_turn_of, View.{desk_of, queue_seen, things_of, things_with}, Things.{Goes, Makes}}, proofs.Facts.{not_same, set_there}}
-use Rattle.exec_invariants.proofs.Showing.{own_queue_seen}
-use Rattle.exec_invariants.{specs.{Kinds.{Kind, lowered}, Places.{claims_at, drops_at, has_count_at, has_loot_at, is_armed_at, is_pooled_at, is_published_at, one_if, searches_at}, Sound.{Aims, HasBatch, HasQueue, IsSeated, SoundAt, has_wakes_at}, Spares.Thins, Whole.{HasWhole, IsWhole, Profile, is_number, queued, runnables_in, with_worker}, Works.Steps}, proofs.{Dedicated.as_long, Aside.{seats_other, seats_own}, Handed.{leaves_seen, leaves_settle, out}, Idled.Settles, Queued.{Hands, Leads, bare_of, hands_of, leads_to, requeued, whole_queued}, Thieves.{has_claim, in_both, own_still, published_seen, same_hands, seat_there, seated_still, stage_still}}}
+use Rattle.exec_invariants.{proofs.{Showing.own_queue_seen, Dedicated.as_long, Aside.{seats_other, seats_own}, Handed.{leaves_seen, leaves_settle, out}, Idled.Settles, Queued.{Hands, Leads, bare_of, hands_of, leads_to, requeued, whole_queued}, Thieves.{has_claim, in_both, own_still, published_seen, same_hands, seat_there, seated_still, stage_still}}, specs.{Kinds.{Kind, lowered}, Places.{claims_at, drops_at, has_count_at, has_loot_at, is_armed_at, is_pooled_at, is_published_at, one_if, searches_at}, Sound.{Aims, HasBatch, HasQueue, IsSeated, SoundAt, has_wakes_at}, Spares.Thins, Whole.{HasWhole, IsWhole, Profile, is_number, queued, runnables_in, with_worker}, Works.Steps}}
 
 module _ {B L : Type 0} (left : B → L) (spot : L → Option Said → Spot) (w w' : Worker) (s s' : Shared B) (e : Event) where
   -- THE RELEASE

@@ -1,12 +1,11 @@
 -- What the steps of a search, and of a scan that reads, are to the machine.
-use Rattle.std.proofs.{Common.{◌≡◌, ◌≢◌, ℕ, ◌+◌, ◌-◌, ◌*◌, ◌%◌, ◌<◌, ◌≤◌, ◌==◌, Bool, true, false, [], Option, Some, refl, sym, ap, ◌∙◌, arith, slice_get, nat_lt, nat_le, if◌then◌else◌}, lemmas.{Bool.{eq-eqb}, List.length-map, Nat.{mod_below}}}
+use Rattle.std.proofs.{Common.{◌≡◌, ◌≢◌, ℕ, ◌+◌, ◌-◌, ◌*◌, ◌%◌, ◌<◌, ◌≤◌, ◌==◌, Bool, true, false, [], Option, Some, refl, sym, ap, ◌∙◌, arith, slice_get, nat_lt, nat_le, if◌then◌else◌}, lemmas.{Bool.eq-eqb, List.length-map, Nat.mod_below}}
 use Rattle.exec_words.specs.{Generator.stirred, Idle.Idle, Queue.{Queue, head_of, room_of, tail_of}, declared.head.Head.Head}
-use Rattle.exec_task.specs.declared.{body.Said.Said}
+use Rattle.exec_task.specs.declared.body.Said.{Said}
 use Rattle.exec_machine.specs.{declared.{config.Configuration.Configuration, event.Event.{Event, TheVariants.Turn}, state.Next.Next}, Choice.Choice.Plain, Progress.Plan}
 use Rattle.exec_moves.specs.{declared.{idling.{InLook.InLook, InScan.InScan, InSearch.InSearch, Scan.Scan}, place.Place.Place}, Move.move_at, Search.{add_search_count, begun_scan, from_of, half, judge_head, load_scan_head, load_search_count, load_their_head, load_their_tail, looks_at, move_half, past, past_own_queue}, Seen.{next_at, serves_at}, State.{Moved, queue_of}}
 use Rattle.exec_parts.{specs.{declared.parts.{seat.Seat.Seat as Chair, shared.Shared.Shared, worker.Worker.Worker}, Spots.Spot, View.{Views, common_of, desk_of, own_of, things_of, things_with}, Things.{Goes, Makes}}, proofs.Facts.{same_number, true_false}}
-use Rattle.exec_invariants.proofs.Showing.{own_queue_seen}
-use Rattle.exec_invariants.{specs.{Kinds.lowered, Places.{has_count_at, is_published_at}, Sound.{IsScanning, MayClaim, SoundAt, has_wakes_at}, Works.{Steps, Suits}}, proofs.{Dedicated.never_apart, Counting.{Stands, counts_alone, counts_same, stance_at, stance_here}, Handed.{ltb-true, ltb-false, out}, Idled.{Settles, calm_of, gone, led, settles_either}, Turning.queue_back_again}}
+use Rattle.exec_invariants.{proofs.{Showing.own_queue_seen, Dedicated.never_apart, Counting.{Stands, counts_alone, counts_same, stance_at, stance_here}, Handed.{ltb-true, ltb-false, out}, Idled.{Settles, calm_of, gone, led, settles_either}, Turning.queue_back_again}, specs.{Kinds.lowered, Places.{has_count_at, is_published_at}, Sound.{IsScanning, MayClaim, SoundAt, has_wakes_at}, Works.{Steps, Suits}}}
 
 -- THE NEXT QUEUE isn't the one before it
 

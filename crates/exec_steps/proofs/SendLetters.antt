@@ -1,14 +1,11 @@
 -- A LETTER IS SENT: a message about what a task held that is over goes to the worker that has it.
-use Rattle.std.proofs.{Common.{◌≡◌, ◌≢◌, ⊎_elim, ℕ, zero, suc, ◌+◌, ◌*◌, ◌<◌, ◌≤◌, ◌==◌, Bool, true, false, not, cond, Contains, List, [], ◌∷◌, ◌++◌, count_by, drop, length, map, option_map, option_to_list, Option, Some, None, refl, sym, ap, subst, ◌∙◌, arith, slice_get, slice_set, if◌then◌else◌}, lemmas.{Bool.{false≢true, eq-eqb}, List.{length-set, Elements.{Contains-append_cases, Contains-append_right}, Sums.sum_by-append}, Option.{get_or_from_slice_get, slice_get_within}}}
-use Rattle.std.proofs.lemmas.List.Elements.{Contains-append_left}
-use Rattle.std.proofs.lemmas.Bool.{lt-ltb}
+use Rattle.std.proofs.{Common.{◌≡◌, ◌≢◌, ⊎_elim, ℕ, zero, suc, ◌+◌, ◌*◌, ◌<◌, ◌≤◌, ◌==◌, Bool, true, false, not, cond, Contains, List, [], ◌∷◌, ◌++◌, count_by, drop, length, map, option_map, option_to_list, Option, Some, None, refl, sym, ap, subst, ◌∙◌, arith, slice_get, slice_set, if◌then◌else◌}, lemmas.{Bool.{false≢true, eq-eqb, lt-ltb}, List.{length-set, Elements.{Contains-append_cases, Contains-append_right, Contains-append_left}, Sums.sum_by-append}, Option.{get_or_from_slice_get, slice_get_within}}}
 use Rattle.exec_words.specs.{Inbox.is_wake_root, Queue.tail_of}
 use Rattle.exec_task.specs.declared.body.Said.{Said}
 use Rattle.exec_machine.specs.{declared.{event.Event.{Event, TheVariants.{Closed, Send, Turn}}, state.{Letter.Letter as Owed, MailMessage.{MailMessage, TheVariants.{Root, ForwardRequest, ForwardTimer, CancelRequest, CancelTimer}}, Next.Next}}, After.own_after, Allowed.allowed, Choice.Choice.Plain, Progress.Plan, Same.{is_letter, same_message}, Tests.AllTrue, World.{no_seat, seat_of}}
-use Rattle.exec_moves.specs.{declared.{handing.{AfterCancels.AfterCancels, AfterSend.AfterSend, AfterSignal.AfterSignal, InSignal.InSignal}, place.{Place.Place}}, Parts.{after_cancels, cancels_left}, Seen.{next_at, polls_at, serves_at}, Send.{after_posting, asks as asks_box, no_letter, posted, send_message, sent}, State.{Desk, Things, goes}, Thing.{mailbox_of, set_mailbox}}
+use Rattle.exec_moves.specs.{declared.{handing.{AfterCancels.AfterCancels, AfterSend.AfterSend, AfterSignal.AfterSignal, InSignal.InSignal}, place.Place.Place}, Parts.{after_cancels, cancels_left}, Seen.{next_at, polls_at, serves_at}, Send.{after_posting, asks as asks_box, no_letter, posted, send_message, sent}, State.{Desk, Things, goes}, Thing.{mailbox_of, set_mailbox}}
 use Rattle.exec_parts.{specs.{declared.parts.{held.Held.Held, letters.Letters.Letters, mail.Subject.Subject, record.Record.Record, seat.Seat.Seat as Chair, shared.Shared.Shared, sleeping.SleeperRecord.SleeperRecord, worker.Worker.Worker}, MailPosts.SendsLetter, Pooled.{Sends, asks_if_sent}, Phased.{IsPhased, closes_after_cancels, closes_at, closing_in, stage_of, closing_after_cancels, has_left}, Spots.Spot, View.{Views, Visible, common_of, desk_of, inbox_at, letter_of_request, letter_of_timer, letters_in, mail_of, own_of, owed_at, polls_seen, queue_at, seat_seen, seats_seen, things_with, visible, with_view, word_at}}, proofs.Facts.{and_from, false_from_ne_true, or_left, set_elsewhere, set_there}}
-use Rattle.exec_invariants.proofs.Showing.{map_set}
-use Rattle.exec_invariants.{specs.{Holding.{Box, Hands, Holder, IsAbout, IsHolding, Mail, Nap, Thing, box_of, cancel_held, cancel_sleep, holder_of, mail_in, mail_of_letters, nap_of, same_mail, thing_of}, Places.{drops_at, is_armed_at}, Sound.{Aims, AreHome, HasLetters, HasQueue, IsLetter as IsOfOther, IsMineIn, IsSeated, SoundAt}, Whole.{HasWhole, IsWhole, Profile, hands_of, mail_with, with_worker}, Works.{Beside, Steps, Suits, Works}}, proofs.{AskBoxes.box_there, Aside.{SameProfile, queue_of_chair, queues_set, seats_other, spared}, Hearing.unheard, HoldPosts.{posted as holding_posted, with_mail}, LetterPosts.{IsLetter, asks_open, cancels_request, cancels_timer, chair_open, open_spares, seat_open, sent_open, things_open}, MailApplies.{rest_had, split_first, same_self}, MailMoves.beside_moved, PoolKept.{gate_spared, gates_set}, Recorded.request_seen, Seats.{chair_set, seat_there}, Rousing.Keeps, Slots.before_barrier, SparedRecord.there_within, TaskAsks.Posts, TaskHears.thing_there, TaskTakes.nap_there, Turning.{Shares, by_place, set_found, sound_on, view_found}}}
+use Rattle.exec_invariants.{proofs.{Showing.map_set, AskBoxes.box_there, Aside.{SameProfile, queue_of_chair, queues_set, seats_other, spared}, Hearing.unheard, HoldPosts.{posted as holding_posted, with_mail}, LetterPosts.{IsLetter, asks_open, cancels_request, cancels_timer, chair_open, open_spares, seat_open, sent_open, things_open}, MailApplies.{rest_had, split_first, same_self}, MailMoves.beside_moved, PoolKept.{gate_spared, gates_set}, Recorded.request_seen, Seats.{chair_set, seat_there}, Rousing.Keeps, Slots.before_barrier, SparedRecord.there_within, TaskAsks.Posts, TaskHears.thing_there, TaskTakes.nap_there, Turning.{Shares, by_place, set_found, sound_on, view_found}}, specs.{Holding.{Box, Hands, Holder, IsAbout, IsHolding, Mail, Nap, Thing, box_of, cancel_held, cancel_sleep, holder_of, mail_in, mail_of_letters, nap_of, same_mail, thing_of}, Places.{drops_at, is_armed_at}, Sound.{Aims, AreHome, HasLetters, HasQueue, IsLetter as IsOfOther, IsMineIn, IsSeated, SoundAt}, Whole.{HasWhole, IsWhole, Profile, hands_of, mail_with, with_worker}, Works.{Beside, Steps, Suits, Works}}}
 use Rattle.exec_steps.proofs.{LettersMay.{first_counts, request_room, timer_room}, Signalling.{Ways, cancels_to}}
 
 -- LETTERS AND MESSAGES

@@ -6,8 +6,7 @@ use Rattle.exec_task.specs.declared.{body.Said.Said, runnable.Runnable.Runnable}
 use Rattle.exec_machine.specs.{declared.{config.Configuration.Configuration, event.Event.{Event, TheVariants.Turn}}, Choice.Choice.Plain, Progress.Plan}
 use Rattle.exec_moves.specs.{declared.{handing.{AfterPop.AfterPop, First.First, InPop.InPop}, place.{InPick.InPick, InPoll.InPoll, Place.Place}}, Move.move_at, Parts.{has_others, polls}, Pick.{Queues, after_empty_look, take_share}, State.{Desk, Moved, does, queue_of, turns}, Thing.{set_global, set_queue, with_queues}}
 use Rattle.exec_parts.specs.{declared.parts.{seat.Seat.Seat as Chair, shared.Shared.Shared, worker.Worker.Worker}, Phased.{TurnsChair, closes_at, closing_in}, Pooled.{polling, with_share}, Spots.Spot, View.{Views, common_of, desk_of, own_of, queue_seen, tasks_of, things_of, things_with}}
-use Rattle.exec_invariants.proofs.Showing.{own_queue_seen}
-use Rattle.exec_invariants.{specs.{HoldPlaces.{is_bare_at, spare_at}, Places.{begins_at, calls_back_at, hands_on_at, has_loot_at, is_armed_at, searches_at, task_at}, Sound.{Aims, HasBatch, HasQueue, SoundAt}, Whole.{HasOne, HasWhole, IsGenuine, IsWhole, Profile, may_let_go, queued, runnables_in, stock, with_worker}, Works.{Steps, Suits}}, proofs.{Dedicated.all_serve, PopLeads.{begins_poll, no_root}, Queued.{hands_of, whole_queued}, Queueing.{Around, Carries, Poses, Reaches, around_own, as_many, hands_own, if_either, poses, requeued_both, whole_handed}, Thieves.{in_both, in_parts, left_from, published_seen, taken_from}}}
+use Rattle.exec_invariants.{proofs.{Showing.own_queue_seen, Dedicated.all_serve, PopLeads.{begins_poll, no_root}, Queued.{hands_of, whole_queued}, Queueing.{Around, Carries, Poses, Reaches, around_own, as_many, hands_own, if_either, poses, requeued_both, whole_handed}, Thieves.{in_both, in_parts, left_from, published_seen, taken_from}}, specs.{HoldPlaces.{is_bare_at, spare_at}, Places.{begins_at, calls_back_at, hands_on_at, has_loot_at, is_armed_at, searches_at, task_at}, Sound.{Aims, HasBatch, HasQueue, SoundAt}, Whole.{HasOne, HasWhole, IsGenuine, IsWhole, Profile, may_let_go, queued, runnables_in, stock, with_worker}, Works.{Steps, Suits}}}
 
 -- A SHARE, of the first of which something is polled
 

@@ -1,12 +1,11 @@
 -- What the claim of half of another run queue is to the machine.
 use Rattle.std.proofs.{Common.{◌≡◌, ◌≢◌, ℕ, ◌+◌, ◌-◌, ◌<◌, ◌≤◌, ◌==◌, inl, inr, Bool, true, false, not, Contains, List, ◌++◌, length, take, drop, Option, None, Some, refl, sym, ap, subst, ◌∙◌, arith, option_to_list, slice_get, slice_set, length-drop}, lemmas.{Bool.{eq-eqb, Decides.nat_tests}, List.{append-nil, drop-map, length-take-le, take-map, Elements.{Contains-append_cases, Contains-append_left, Contains-append_right}}, Nat.mod_below}}
-use Rattle.exec_words.specs.{Head.{claim_at, claimed_head}, Queue.{Queue, claimed, head_of, tail_of}, Reserved.{extended}, declared.head.Head.Head}
+use Rattle.exec_words.specs.{Head.{claim_at, claimed_head}, Queue.{Queue, claimed, head_of, tail_of}, Reserved.extended, declared.head.Head.Head}
 use Rattle.exec_task.specs.declared.{body.Said.Said, runnable.Runnable.Runnable}
-use Rattle.exec_machine.specs.{declared.{event.Event.{Event, TheVariants.Turn}}, Choice.Choice.Plain, Progress.Plan}
+use Rattle.exec_machine.specs.{declared.event.Event.{Event, TheVariants.Turn}, Choice.Choice.Plain, Progress.Plan}
 use Rattle.exec_moves.specs.{declared.{idling.{InLook.InLook, InScan.InScan, Scan.Scan}, place.Place.Place}, Move.move_at, Pop.same_head, Seen.polls_at, Search.{claim_half, from_of, judge_head}, State.{Desk, Moved, queue_of, turns}, Thing.{set_queue, with_queue}}
 use Rattle.exec_parts.{specs.{declared.parts.{seat.Seat.Seat as Chair, shared.Shared.Shared, worker.Worker.Worker}, Phased.TurnsChair, Pooled.{OfChair, claimed_if, taken_if}, Spots.Spot, View.{Views, common_of, desk_of, own_of, queue_seen, tasks_of, things_of, things_with}, Things.Makes}, proofs.Facts.{not_same, true_false}}
-use Rattle.exec_invariants.proofs.{Showing.own_queue_seen, Claiming.same_heads}
-use Rattle.exec_invariants.{specs.{Kinds.Kind, Places.{claims_at, drops_at, has_count_at, has_loot_at, is_published_at, one_if}, Sound.SoundAt, Whole.{HasWhole, IsWhole, Profile, is_number, runnables_in, with_worker}, Works.{Steps, Suits}}, proofs.{Dedicated.never_apart, Aside.{seats_other, spared, SparesSeats, told_on}, Handed.out, Idled.Settles, Queued.{Hands, Leads, hands_of, leads_to, requeued, whole_queued}, Thieves.{half_of, in_both, in_parts, left_from, own_still, same_hands, seat_there, seated_still, stage_still, taken_from}, Turning.{GoesOn, by_hand}}}
+use Rattle.exec_invariants.{proofs.{Showing.own_queue_seen, Claiming.same_heads, Dedicated.never_apart, Aside.{seats_other, spared, SparesSeats, told_on}, Handed.out, Idled.Settles, Queued.{Hands, Leads, hands_of, leads_to, requeued, whole_queued}, Thieves.{half_of, in_both, in_parts, left_from, own_still, same_hands, seat_there, seated_still, stage_still, taken_from}, Turning.{GoesOn, by_hand}}, specs.{Kinds.Kind, Places.{claims_at, drops_at, has_count_at, has_loot_at, is_published_at, one_if}, Sound.SoundAt, Whole.{HasWhole, IsWhole, Profile, is_number, runnables_in, with_worker}, Works.{Steps, Suits}}}
 use Rattle.exec_steps.proofs.Searching.{judged_settle}
 
 module _ {B L : Type 0} (left : B → L) (spot : L → Option Said → Spot) (w w' : Worker) (s s' : Shared B) (e : Event) where

@@ -1,8 +1,7 @@
 -- A step of one party keeps what holds of an executor: what the party leaves of others is enough for each of them.
-use Rattle.std.proofs.{Common.{◌≡◌, ◌≢◌, ◌⊎◌, ℕ, zero, suc, ◌+◌, ◌*◌, ◌<◌, ◌≤◌, ◌==◌, List, [], ◌∷◌, ◌++◌, length, Some, refl, sym, ap, subst, ◌∙◌, arith, inl, inr, option_to_list, slice_get, slice_set, if◌then◌else◌}, lemmas.{List.{length-append, length-set}, Option.slice_get_within}}
-use Rattle.std.proofs.Math.Numerals.{add-one}
+use Rattle.std.proofs.{Common.{◌≡◌, ◌≢◌, ◌⊎◌, ℕ, zero, suc, ◌+◌, ◌*◌, ◌<◌, ◌≤◌, ◌==◌, List, [], ◌∷◌, ◌++◌, length, Some, refl, sym, ap, subst, ◌∙◌, arith, inl, inr, option_to_list, slice_get, slice_set, if◌then◌else◌}, lemmas.{List.{length-append, length-set}, Option.slice_get_within}, Math.Numerals.add-one}
 use Rattle.exec_machine.specs.declared.{config.Configuration.Configuration, event.Event.Event}
-use Rattle.exec_moves.specs.{Seen.polls_at, declared.handing.{CallPlace.CallPlace}}
+use Rattle.exec_moves.specs.{Seen.polls_at, declared.handing.CallPlace.CallPlace}
 use Rattle.exec_parts.{specs.{declared.parts.{seat.Seat.Seat as Chair, shared.Shared.Shared, worker.Worker.Worker}, MailPosts.{HaveMailboxes, IsMailbox}}, proofs.Facts.{by_number, same_Some, set_elsewhere, set_there}}
 use Rattle.exec_polling.{specs.{declared.caller.Caller.Caller, Calling.{CallAims, CallBeside, CallSound, HasCallWhole, HoldsForAll, has_count_in, with_caller}}, proofs.Outsiders.no_other}
 use Rattle.exec_invariants.{specs.{Places.{claims_at, clears_at, drops_at, has_count_at, is_published_at, one_if}, Sound.{AreHome, Sound}, Spares.{Spares, SparesMore}, Holding.mail_in, Whole.{HasWhole, IsWhole, Profile, is_number, mail_with, runnables_in, wakes_with, with_worker}, Works.{Beside, BesideNewcomer}}, proofs.{Counting.at_most, SparedRecord.there_within}}

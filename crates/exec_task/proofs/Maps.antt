@@ -1,7 +1,5 @@
 -- A task set by the numbers of its tasks.
-use Rattle.std.proofs.Common.{◌≡◌, ℕ, zero, suc, ◌<◌, ◌⊎◌, ◌++◌, ◌∷◌, replicate, ◌%◌, List, [], length, set, get_or, get_or-set_same, get_or-set_other, Option, Some, None, refl, sym, ◌∙◌, arith}
-use Rattle.std.proofs.lemmas.{List.length-set, Bool.Decides.nat_tests}
-use Rattle.std.specs.{Ordering.nat_cmp, BTreeMap.BTreeMap, BTreeMap.UpdatesBy}
+use Rattle.std.{proofs.{Common.{◌≡◌, ℕ, zero, suc, ◌<◌, ◌⊎◌, ◌++◌, ◌∷◌, replicate, ◌%◌, List, [], length, set, get_or, get_or-set_same, get_or-set_other, Option, Some, None, refl, sym, ◌∙◌, arith}, lemmas.{List.length-set, Bool.Decides.nat_tests}}, specs.{Ordering.nat_cmp, BTreeMap.{BTreeMap, UpdatesBy}}}
 use Rattle.exec_base.specs.declared.task_no.TaskNo.{TaskNo}
 use Rattle.exec_task.specs.TaskSet.{Set, at_number, shard_at, shard_of, AreAtHome, ShardChanges, Changes, TakesNewest}
 

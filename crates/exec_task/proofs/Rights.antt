@@ -1,8 +1,7 @@
 -- What calls on a task keep, and what comes of a poll that others wake and clear.
 use Rattle.std.proofs.Common.{◌≡◌, ℕ, ◌+◌, ◌≤◌, ◌||◌, Bool, true, false, List, [], ◌∷◌, if◌then◌else◌, refl, arith}
 use Rattle.exec_base.specs.declared.task_no.TaskNo.{TaskNo}
-use Rattle.exec_task.specs.{declared.task.Phase.Phase, declared.body.Ended.Ended, declared.runnable.AfterPoll.AfterPoll, Phases.Task, Phases.pend_answer}
-use Rattle.exec_task.specs.TaskRuns.{Call, Ledger, MayCall, AreCalls, IsOneRight, after, after_all, Meanwhile, after_meanwhile, some_wake, some_clear, just_begun, after_pending_poll, new_task}
+use Rattle.exec_task.specs.{declared.{task.Phase.Phase, body.Ended.Ended, runnable.AfterPoll.AfterPoll}, Phases.{Task, pend_answer}, TaskRuns.{Call, Ledger, MayCall, AreCalls, IsOneRight, after, after_all, Meanwhile, after_meanwhile, some_wake, some_clear, just_begun, after_pending_poll, new_task}}
 
 module _ {B : Type 0} where
   -- the parts of a ledger

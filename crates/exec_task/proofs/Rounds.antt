@@ -1,10 +1,7 @@
 -- Rounds of the shards of a task set.
-use Rattle.std.proofs.Common.{◌≡◌, ◌≢◌, ℕ, zero, suc, ◌+◌, ◌<◌, ◌≤◌, ◌⊎◌, inl, inr, Bool, cond, List, [], ◌∷◌, ◌++◌, length, reverse, take, drop, get_or, set, get_or-set_same, count_by, sum_by, refl, ap, arith, rules, length-append, length-drop, append_assoc, add-one}
-use Rattle.std.specs.List.{flat_map}
-use Rattle.std.proofs.{Math.Seq.drop-cons, Math.Seq.take-suc, lemmas.List.Sums.sum_by-append, lemmas.List.Sums.sum_by-cons, lemmas.List.Sums.sum_by-take-drop, lemmas.List.Sorted.IsPermutation-reverse, lemmas.List.Sorted.sum_by-IsPermutation}
-use Rattle.std.proofs.lemmas.List.{reverse-append, append-nil, length-take, take-append-le, take_all, drop_all, drop-set-lt, take-set, length-set}
+use Rattle.std.{proofs.{Common.{◌≡◌, ◌≢◌, ℕ, zero, suc, ◌+◌, ◌<◌, ◌≤◌, ◌⊎◌, inl, inr, Bool, cond, List, [], ◌∷◌, ◌++◌, length, reverse, take, drop, get_or, set, get_or-set_same, count_by, sum_by, refl, ap, arith, rules, length-append, length-drop, append_assoc, add-one}, Math.Seq.{drop-cons, take-suc}, lemmas.List.{Sums.{sum_by-append, sum_by-cons, sum_by-take-drop}, Sorted.{IsPermutation-reverse, sum_by-IsPermutation}, reverse-append, append-nil, length-take, take-append-le, take_all, drop_all, drop-set-lt, take-set, length-set}}, specs.List.flat_map}
 use Rattle.exec_base.specs.declared.task_no.TaskNo.{TaskNo}
-use Rattle.exec_task.specs.{declared.drain.Drain.Drain, TaskSet.Set, TaskSet.next_shard, TaskSet.from_shard, TaskSet.to_come, TaskSet.IsFor, TaskSet.TakesNewest}
+use Rattle.exec_task.specs.{declared.drain.Drain.Drain, TaskSet.{Set, next_shard, from_shard, to_come, IsFor, TakesNewest}}
 
 -- the next shard is the first, or the one after this
 next_cases : (count at : ℕ) → ((at + 1 ≡ count) × (next_shard count at ≡ 0)) ⊎ ((at + 1 ≢ count) × (next_shard count at ≡ at + 1))

@@ -1,8 +1,7 @@
 -- Calls on a task, one after another, and the runnables that are about.
 use Rattle.std.specs.Prelude.{◌≡◌, ℕ, ◌+◌, ◌-◌, ◌<◌, ◌≤◌, Bool, true, false, List, [], ◌∷◌, if◌then◌else◌, is_some}
 use Rattle.exec_base.specs.declared.task_no.TaskNo.{TaskNo}
-use Rattle.exec_task.specs.declared.{body.Ended.Ended, task.Phase.Phase, runnable.AfterPoll.AfterPoll}
-use Rattle.exec_task.specs.Phases.{Task, is_idle, queued_body, woken, begun, pended, pend_answer, over, cleared, runnable_of}
+use Rattle.exec_task.specs.{declared.{body.Ended.Ended, task.Phase.Phase, runnable.AfterPoll.AfterPoll}, Phases.{Task, is_idle, queued_body, woken, begun, pended, pend_answer, over, cleared, runnable_of}}
 
 -- a call on a task
 pub data Call (B : Type 0) : Type 0 where

@@ -1,6 +1,5 @@
 -- What a contract sees of a task set and of a drain.
-use Rattle.std.specs.Prelude.{◌≡◌, ◌≢◌, ℕ, ◌+◌, ◌-◌, ◌*◌, ◌/◌, ◌%◌, ◌<◌, ◌≤◌, ◌==◌, Bool, true, false, List, [], ◌∷◌, ◌++◌, length, reverse, take, drop, flat_map, slice_set, slice_index_or, Option, Some, None, if◌then◌else◌}
-use Rattle.std.specs.{Ordering.nat_cmp, Int.IsPowerOfTwo, Map.lookup, Map.remove_entry, BTreeMap.insert_entry, BTreeMap.is_at}
+use Rattle.std.specs.{Prelude.{◌≡◌, ◌≢◌, ℕ, ◌+◌, ◌-◌, ◌*◌, ◌/◌, ◌%◌, ◌<◌, ◌≤◌, ◌==◌, Bool, true, false, List, [], ◌∷◌, ◌++◌, length, reverse, take, drop, flat_map, slice_set, slice_index_or, Option, Some, None, if◌then◌else◌}, Ordering.nat_cmp, Int.IsPowerOfTwo, Map.{lookup, remove_entry}, BTreeMap.{insert_entry, is_at}}
 use Rattle.exec_base.specs.declared.task_no.TaskNo.{TaskNo}
 use Rattle.exec_task.specs.declared.{drain.Drain.Drain, tasks.Refusal.Refusal}
 

@@ -1,8 +1,7 @@
 //! Worked examples of phases, runnables, sets and drains, proved by computation: good ones and refused ones.
 
 ghost use Rattle.std.specs.Prelude.{◌≡◌, ◌≢◌, [], ◌∷◌, Some, None, true, ℕ};
-ghost use Rattle.exec_task.specs.Phases.{is_idle, queued_body, body_of, woken, begun, pended, pend_answer, cleared, runnable_of, over};
-ghost use Rattle.exec_task.specs.{TaskRuns.AreCalls, TaskRuns.after_all, TaskRuns.after_pending_poll, TaskRuns.Call.Wake, TaskRuns.Call.Begin, TaskRuns.Call.Pend, TaskRuns.Call.Done, TaskRuns.Call.Clear, TaskRuns.Meanwhile.Wakes, TaskRuns.Meanwhile.Clears, TaskSet.held, TaskSet.shard_of, TaskSet.removed, TaskSet.IsRefused, TaskSet.to_come, TaskSet.drain_of, TaskSet.next_shard, Sight.grows, Polls.ended_by, Examples.no, Examples.in_phase, Examples.cleared_in, Examples.fresh, Examples.two_left, Examples.four_in_two, declared.task.Phase.Phase, declared.body.Ended.Ended, declared.body.Act.Act, declared.runnable.AfterPoll.AfterPoll, declared.tasks.Refusal.Refusal};
+ghost use Rattle.exec_task.specs.{Phases.{is_idle, queued_body, body_of, woken, begun, pended, pend_answer, cleared, runnable_of, over}, TaskRuns.{AreCalls, after_all, after_pending_poll, Call.{Wake, Begin, Pend, Done, Clear}, Meanwhile.{Wakes, Clears}}, TaskSet.{held, shard_of, removed, IsRefused, to_come, drain_of, next_shard}, Sight.grows, Polls.ended_by, Examples.{no, in_phase, cleared_in, fresh, two_left, four_in_two}, declared.{task.Phase.Phase, body.{Ended.Ended, Act.Act}, runnable.AfterPoll.AfterPoll, tasks.Refusal.Refusal}};
 
 /// What a wake makes of a phase, and when it publishes a runnable; and which polls begin.
 pub fn wakes_and_beginnings()

@@ -2,8 +2,7 @@
 
 ghost use Rattle.std.specs.Prelude.{◌≡◌, ℕ, ◌+◌, ◌<◌, ◌≤◌, List, length, Bool, count_by, sum_by};
 ghost use Rattle.exec_base.specs.declared.task_no.TaskNo.{TaskNo};
-ghost use Rattle.exec_task.specs.{Phases.pend_answer, TaskSet.Set, TaskSet.to_come};
-ghost use Rattle.exec_task.specs.TaskRuns.{Call, AreCalls, IsOneRight, Meanwhile, new_task, after_all, after_meanwhile, just_begun, after_pending_poll};
+ghost use Rattle.exec_task.specs.{Phases.pend_answer, TaskSet.{Set, to_come}, TaskRuns.{Call, AreCalls, IsOneRight, Meanwhile, new_task, after_all, after_meanwhile, just_begun, after_pending_poll}};
 
 /// A task has at most one runnable, in a queue, a hand or a running poll; and none is lost: there
 /// is exactly one where the task is queued or polled, and none where it is idle.

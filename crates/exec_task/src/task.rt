@@ -19,8 +19,7 @@
 //! task under a lock of its own, and makes each call here one section on it.
 
 ghost use Rattle.std.specs.Prelude.{◌≡◌, IsTrue, if◌then◌else◌, Some, None, false};
-ghost use Rattle.exec_task.specs.Phases.{Task, is_polled, is_idle, body_of, queued_body, begun, runnable_of, woken, pended, pend_answer, over, cleared};
-ghost use Rattle.exec_task.specs.declared.{task.Phase.Phase, runnable.AfterPoll.AfterPoll};
+ghost use Rattle.exec_task.specs.{Phases.{Task, is_polled, is_idle, body_of, queued_body, begun, runnable_of, woken, pended, pend_answer, over, cleared}, declared.{task.Phase.Phase, runnable.AfterPoll.AfterPoll}};
 
 use crate::body::Ended;
 use crate::runnable::{AfterPoll, Runnable};

@@ -9,8 +9,7 @@
 //! it still holds is handed out once, to be cleared. Only then may a removal find nothing.
 
 ghost use Rattle.std.specs.Prelude.{◌≡◌, ◌<◌, ◌≤◌, ◌^◌, ◌⊎◌, ◌++◌, ◌∷◌, [], ℕ, true, false, length, replicate, IfOk, IfErr, IfNone, IfSome, OnOk, OnErr, IsSome, option_copied, None, Some};
-ghost use Rattle.exec_task.specs.TaskSet.{IsShardCount, IsRefused, shard_of, shard_at, at_number, with_task, without_task, ShardChanges, Changes, held, inserted, removed, IsFor, TakesNewest, drain_of};
-ghost use Rattle.exec_task.specs.Phases.{Spawns};
+ghost use Rattle.exec_task.specs.{TaskSet.{IsShardCount, IsRefused, shard_of, shard_at, at_number, with_task, without_task, ShardChanges, Changes, held, inserted, removed, IsFor, TakesNewest, drain_of}, Phases.Spawns};
 
 use crate::drain::Drain;
 use crate::place::Place;

@@ -1,11 +1,8 @@
 -- How the lines of a trace begin.
-use Rattle.std.proofs.Common.{◌≡◌, ◌≢◌, ℕ, ◌+◌, ◌<◌, ◌≤◌, ◌⊎◌, inl, inr, List, [], ◌∷◌, ◌++◌, All, refl, sym, ap, ◌∙◌, arith, map, length, get_or, take, drop, append_assoc, codes, length-append, subst}
-use Rattle.std.proofs.lemmas.List.{length-map, take-append-drop, length-take-le, get_or_at, get_or_append_left, get_or-map, append-nil, map_push}
-use Rattle.std.proofs.lemmas.List.Elements.{All-push}
-pub use Rattle.std.proofs.lemmas.List.Elements.{All-nil}
+use Rattle.std.proofs.{Common.{◌≡◌, ◌≢◌, ℕ, ◌+◌, ◌<◌, ◌≤◌, ◌⊎◌, inl, inr, List, [], ◌∷◌, ◌++◌, All, refl, sym, ap, ◌∙◌, arith, map, length, get_or, take, drop, append_assoc, codes, length-append, subst}, lemmas.List.{length-map, take-append-drop, length-take-le, get_or_at, get_or_append_left, get_or-map, append-nil, map_push, Elements.All-push}}
 use Rattle.exec_machine.specs.declared.{config.{Configuration.Configuration, ScriptWord.{ScriptWord, TheVariants.End}}, step.Step.{Step, TheVariants.Work}}
-use Rattle.exec_text.specs.{Grammar.{Meaning, HeaderFits, IsWellFormed, NamesScripts, trace_lines, text_of_script, text_of_root, text_of_step, WordFits, WordsFit, StepFits, WordNames, StepNames}, Reading.{header, IsRoot, IsScript, IsHead, IsTop, IsMarkedTop}}
-use Rattle.exec_text.proofs.Headers.{header_length, header_same, append_same}
+use Rattle.exec_text.{specs.{Grammar.{Meaning, HeaderFits, IsWellFormed, NamesScripts, trace_lines, text_of_script, text_of_root, text_of_step, WordFits, WordsFit, StepFits, WordNames, StepNames}, Reading.{header, IsRoot, IsScript, IsHead, IsTop, IsMarkedTop}}, proofs.Headers.{header_length, header_same, append_same}}
+pub use Rattle.std.proofs.lemmas.List.Elements.{All-nil}
 
 -- lines that are right by themselves begin so, and name scripts below this count
 abbrev pub Begins : ℕ → List (List ℕ) → Type 0

@@ -1,10 +1,7 @@
 -- What an outside caller asks for.
-use Rattle.std.proofs.Common.{◌≡◌, ◌≢◌, ℕ, ◌<◌, ◌≤◌, ◌^◌, List, [], ◌∷◌, ◌++◌, codes, decimal, refl, sym, ap, ◌∙◌, arith, length, get_or, drop, append_assoc}
-use Rattle.std.proofs.lemmas.List.{append-nil}
-use Rattle.exec_machine.specs.declared.step.{Step.{Step, TheVariants.{Work, One}}, Action.{Action, TheVariants.{Spawn, Wake, GoOn, Clock, Land, SetBusy, EndPoll, Stir}}}
-use Rattle.exec_machine.specs.declared.step.Action.TheVariants as action
-use Rattle.exec_text.specs.{Grammar.{text_of_step, StepFits, StepNames}, Reading.{NoSpace, IsField, IsNumber, IsCall}}
-use Rattle.exec_text.proofs.{Fields.field_same, Numbers.number_one, Steps.{letter, first_of, more_of}}
+use Rattle.std.proofs.{Common.{◌≡◌, ◌≢◌, ℕ, ◌<◌, ◌≤◌, ◌^◌, List, [], ◌∷◌, ◌++◌, codes, decimal, refl, sym, ap, ◌∙◌, arith, length, get_or, drop, append_assoc}, lemmas.List.append-nil}
+use Rattle.exec_machine.specs.declared.step.{Step.{Step, TheVariants.{Work, One}}, Action.{Action, TheVariants.{Spawn, Wake, GoOn, Clock, Land, SetBusy, EndPoll, Stir}, Action as action}}
+use Rattle.exec_text.{specs.{Grammar.{text_of_step, StepFits, StepNames}, Reading.{NoSpace, IsField, IsNumber, IsCall}}, proofs.{Fields.field_same, Numbers.number_one, Steps.{letter, first_of, more_of}}}
 
 spawn_clean : NoSpace (codes "spawn")
 spawn_clean = (λ e. omega arith, (λ e. omega arith, (λ e. omega arith, (λ e. omega arith, (λ e. omega arith, tt)))))

@@ -1,11 +1,7 @@
 -- First faults.
-use Rattle.std.proofs.Common.{◌≡◌, ◌≢◌, ℕ, ◌+◌, ◌-◌, ◌<◌, ◌≤◌, ◌⊎◌, inl, inr, List, [], ◌∷◌, ◌++◌, All, sym, ap, ◌∙◌, arith, length, get_or, map, codes, take, drop, filter, append_assoc, subst}
-use Rattle.std.specs.Str.Lines.{lines}
-use Rattle.std.proofs.lemmas.List.{take_all, take-append-drop, take-take, append-nil, map_push}
-use Rattle.std.proofs.lemmas.List.Elements.{filter-append}
+use Rattle.std.{proofs.{Common.{◌≡◌, ◌≢◌, ℕ, ◌+◌, ◌-◌, ◌<◌, ◌≤◌, ◌⊎◌, inl, inr, List, [], ◌∷◌, ◌++◌, All, sym, ap, ◌∙◌, arith, length, get_or, map, codes, take, drop, filter, append_assoc, subst}, lemmas.List.{take_all, take-append-drop, take-take, append-nil, map_push, Elements.filter-append}}, specs.Str.Lines.lines}
 use Rattle.exec_machine.specs.declared.{config.{Configuration.Configuration, ScriptWord.ScriptWord}, step.Step.Step}
-use Rattle.exec_text.specs.{Grammar.{Meaning, HeaderFits, IsWellFormed, NamesScripts, trace_lines, says_something, scripts_among, ScriptsThatCount, CanGoOn, IsTrace, IsTraceOf, IsFirstFault, text_of_step, StepFits, StepNames}, Reading.{said_before, IsNextSaid, IsLastSaid, IsMissing, IsStuck, header, IsScript, IsRoot, IsHead, IsTop, IsMarkedTop, all_said}, Laws.{TraceHasNoFault, FaultIsOne}}
-use Rattle.exec_text.proofs.{Said.said_all, Headers.{config_of, config_fits}, Numbers.AllSmall, Scripts.{counted_by_line, counted_by_end, count_is, count_is_one}, Begins.{Begins, Formed, formed_of, meaning_from, header_front, header_next, header_short, head_begins, head_short, task_next, head_script, top_begins, top_short, mark_next, steps_fit, steps_named, steps_spelled, steps_begin, steps_next}}
+use Rattle.exec_text.{specs.{Grammar.{Meaning, HeaderFits, IsWellFormed, NamesScripts, trace_lines, says_something, scripts_among, ScriptsThatCount, CanGoOn, IsTrace, IsTraceOf, IsFirstFault, text_of_step, StepFits, StepNames}, Reading.{said_before, IsNextSaid, IsLastSaid, IsMissing, IsStuck, header, IsScript, IsRoot, IsHead, IsTop, IsMarkedTop, all_said}, Laws.{TraceHasNoFault, FaultIsOne}}, proofs.{Said.said_all, Headers.{config_of, config_fits}, Numbers.AllSmall, Scripts.{counted_by_line, counted_by_end, count_is, count_is_one}, Begins.{Begins, Formed, formed_of, meaning_from, header_front, header_next, header_short, head_begins, head_short, task_next, head_script, top_begins, top_short, mark_next, steps_fit, steps_named, steps_spelled, steps_begin, steps_next}}}
 
 pub fault_at : (text : List ℕ) (count old next : ℕ) (line : List ℕ) → ScriptsThatCount text count → IsNextSaid text old next line → Begins count (said_before text old) → (Begins count (said_before text old ++ line ∷ []) → ⊥) → IsFirstFault text next
 unfolding said_before

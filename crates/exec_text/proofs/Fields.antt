@@ -1,12 +1,5 @@
 -- A line has one first field, and a script one first word.
-use Rattle.std.proofs.Common.{◌≡◌, ◌≢◌, ℕ, ◌<◌, List, [], ◌∷◌, ◌++◌, refl, sym, ap, ◌∙◌, arith, length, take, drop}
-use Rattle.std.proofs.Common.{Bool, true, false, not, eqb, eq-eqb, Option, Some, None, IfSome, IfNone}
-use Rattle.std.specs.Cmp.Lexicographic.{pointwise}
-use Rattle.std.proofs.lemmas.Bool.{false≢true, eqb-true, not-true, not-false}
-use Rattle.std.proofs.lemmas.Bool.Decides.{Decides-eqb}
-use Rattle.std.proofs.lemmas.List.{nil_from_length, take-append-drop}
-use Rattle.std.proofs.Math.Seq.{take-append_seam}
-use Rattle.std.proofs.lemmas.Slice.Eq.{slice_eq-Decides}
+use Rattle.std.{proofs.{Common.{◌≡◌, ◌≢◌, ℕ, ◌<◌, List, [], ◌∷◌, ◌++◌, refl, sym, ap, ◌∙◌, arith, length, take, drop, Bool, true, false, not, eqb, eq-eqb, Option, Some, None, IfSome, IfNone}, lemmas.{Bool.{false≢true, eqb-true, not-true, not-false, Decides.Decides-eqb}, List.{nil_from_length, take-append-drop}, Slice.Eq.slice_eq-Decides}, Math.Seq.take-append_seam}, specs.Cmp.Lexicographic.pointwise}
 use Rattle.exec_text.specs.Reading.{IsCut, NoSpace, IsField}
 
 pub cut_same : (f g r s : List ℕ) → NoSpace f → NoSpace g → IsCut r → IsCut s → f ++ r ≡ g ++ s → (f ≡ g) × (r ≡ s)

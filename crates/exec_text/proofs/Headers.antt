@@ -1,10 +1,7 @@
 -- The lines of a header.
-use Rattle.std.proofs.Common.{◌≡◌, ◌≢◌, ℕ, zero, suc, ◌<◌, ◌≤◌, ◌^◌, List, [], ◌∷◌, ◌++◌, codes, decimal, refl, sym, ap, ◌∙◌, arith, length, get_or, drop, append_assoc}
-use Rattle.std.proofs.lemmas.List.{append-nil}
-use Rattle.std.proofs.lemmas.Fmt.{decimal_injective}
+use Rattle.std.proofs.{Common.{◌≡◌, ◌≢◌, ℕ, zero, suc, ◌<◌, ◌≤◌, ◌^◌, List, [], ◌∷◌, ◌++◌, codes, decimal, refl, sym, ap, ◌∙◌, arith, length, get_or, drop, append_assoc}, lemmas.{List.append-nil, Fmt.decimal_injective}}
 use Rattle.exec_machine.specs.declared.config.{Configuration.Configuration, Spin.Spin}
-use Rattle.exec_text.specs.{Grammar.HeaderFits, Reading.{header, text_of_spin, SpinFits, IsCut, IsNumber}}
-use Rattle.exec_text.proofs.Numbers.{spaced, AllSmall, spaced_same, spaced_left, spaced_more, front_number}
+use Rattle.exec_text.{specs.{Grammar.HeaderFits, Reading.{header, text_of_spin, SpinFits, IsCut, IsNumber}}, proofs.Numbers.{spaced, AllSmall, spaced_same, spaced_left, spaced_more, front_number}}
 
 -- the header is nine lines
 pub header_length : (c : Configuration) → length (header c) ≡ 9

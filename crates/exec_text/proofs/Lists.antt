@@ -1,9 +1,6 @@
 -- What a list that may be lost stands for, as it grows and where it is whole.
-use Rattle.std.proofs.Common.{◌≡◌, List, [], ◌∷◌, ◌++◌, refl, sym, ap, ◌∙◌, subst, arith, map, length}
-use Rattle.std.specs.declared.{alloc.Global.Global, vec.Vec.Vec}
-use Rattle.std.proofs.lemmas.List.{map_push}
-use Rattle.exec_text.specs.declared.kept.Kept.TheVariants as kept
-use Rattle.exec_text.specs.{declared.kept.Kept.Kept, Kept.{Keeps, KeepsLists}}
+use Rattle.std.{proofs.{Common.{◌≡◌, List, [], ◌∷◌, ◌++◌, refl, sym, ap, ◌∙◌, subst, arith, map, length}, lemmas.List.map_push}, specs.declared.{alloc.Global.Global, vec.Vec.Vec}}
+use Rattle.exec_text.specs.{declared.kept.Kept.{Kept as kept, Kept}, Kept.{Keeps, KeepsLists}}
 
 pub kept_whole : {T : Type 0} (it : Kept T) (list : Vec T Global) (all : List T) → it ≡ kept.All list → Keeps it all → list.items ≡ all
 kept_whole {T} it list all e h = subst (λ (k : Kept T). Keeps k all) e h

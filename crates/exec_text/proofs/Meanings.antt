@@ -1,10 +1,7 @@
 -- A text has one meaning.
-use Rattle.std.proofs.Common.{◌≡◌, ℕ, inl, inr, List, [], ◌∷◌, All, map, length, codes, refl, sym, ap, ◌∙◌, subst, arith, get_or, drop}
-use Rattle.std.proofs.lemmas.List.{length-map}
-use Rattle.std.proofs.lemmas.List.Elements.{All-tail}
+use Rattle.std.proofs.{Common.{◌≡◌, ℕ, inl, inr, List, [], ◌∷◌, All, map, length, codes, refl, sym, ap, ◌∙◌, subst, arith, get_or, drop}, lemmas.List.{length-map, Elements.All-tail}}
 use Rattle.exec_machine.specs.declared.{config.{Configuration.Configuration, ScriptWord.ScriptWord}, step.Step.Step}
-use Rattle.exec_text.specs.{Grammar.{HeaderFits, WordsFit, text_of_words, text_of_script, text_of_root, text_of_step, StepFits}, Laws.MeaningIsOne}
-use Rattle.exec_text.proofs.{Words.words_same, Steps.step_same, Headers.append_same, Begins.{below, meaning_from, lines_are, behind_header, behind_scripts}}
+use Rattle.exec_text.{specs.{Grammar.{HeaderFits, WordsFit, text_of_words, text_of_script, text_of_root, text_of_step, StepFits}, Laws.MeaningIsOne}, proofs.{Words.words_same, Steps.step_same, Headers.append_same, Begins.{below, meaning_from, lines_are, behind_header, behind_scripts}}}
 
 steps_same : (ss ts : List Step) → All StepFits ss → All StepFits ts → map text_of_step ss ≡ map text_of_step ts → ss ≡ ts
 steps_same [] [] f g e = refl

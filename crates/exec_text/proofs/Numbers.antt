@@ -1,14 +1,6 @@
 -- Numbers in decimal, and the text that `parse` reads.
-use Rattle.std.proofs.Common.{◌≡◌, ◌≢◌, ℕ, ◌<◌, ◌≤◌, ◌^◌, zero, suc, List, [], ◌∷◌, ◌++◌, drop, Result, Option, IfSome, IfNone, refl, sym, ap, ◌∙◌, arith, length, get_or, decimal, subst}
-use Rattle.std.specs.Str.{IsUtf8}
-use Rattle.std.specs.Str.Parse.{AllDigits, digits_value, ParsesUnsigned}
-use Rattle.std.proofs.lemmas.Str.{IsUtf8-from_ascii}
-use Rattle.std.proofs.lemmas.Str.Parse.{IsNumeralModel, numerals_by_value, tells_digits, digit_from_value, digit_at, parse_plain}
-use Rattle.std.proofs.lemmas.Fmt.{digits_decimal, digits_value-decimal, decimal_nonempty, first_decimal, decimal_digit, decimal-digits_value, IsAscii-decimal, decimal_injective}
-use Rattle.std.specs.Result.{result_ok}
-use Rattle.std.specs.List.{AllByRecursion}
-use Rattle.exec_text.specs.Reading.{NoSpace, IsPlain, IsCut, IsField, IsNumber}
-use Rattle.exec_text.proofs.Fields.{cut_same, field_same}
+use Rattle.std.{proofs.{Common.{◌≡◌, ◌≢◌, ℕ, ◌<◌, ◌≤◌, ◌^◌, zero, suc, List, [], ◌∷◌, ◌++◌, drop, Result, Option, IfSome, IfNone, refl, sym, ap, ◌∙◌, arith, length, get_or, decimal, subst}, lemmas.{Str.{IsUtf8-from_ascii, Parse.{IsNumeralModel, numerals_by_value, tells_digits, digit_from_value, digit_at, parse_plain}}, Fmt.{digits_decimal, digits_value-decimal, decimal_nonempty, first_decimal, decimal_digit, decimal-digits_value, IsAscii-decimal, decimal_injective}}}, specs.{Str.{IsUtf8, Parse.{AllDigits, digits_value, ParsesUnsigned}}, Result.result_ok, List.AllByRecursion}}
+use Rattle.exec_text.{specs.Reading.{NoSpace, IsPlain, IsCut, IsField, IsNumber}, proofs.Fields.{cut_same, field_same}}
 
 own : IsNumeralModel (AllDigits 10) (digits_value 10)
 own = numerals_by_value (AllDigits 10) tells_digits

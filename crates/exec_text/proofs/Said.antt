@@ -1,11 +1,5 @@
 -- One line after another.
-use Rattle.std.proofs.Common.{◌≡◌, ◌≢◌, ℕ, ◌+◌, ◌<◌, ◌≤◌, Bool, true, false, ◌==◌, cond, List, [], ◌∷◌, ◌++◌, refl, sym, ap, ◌∙◌, arith, length, get_or, take, drop, filter}
-use Rattle.std.specs.Str.Lines.{lines, lines_of_parts, strip_carriage_return}
-use Rattle.std.proofs.lemmas.Bool.{ne_eqb}
-use Rattle.std.proofs.lemmas.List.Sums.{position_or_len_is}
-use Rattle.std.proofs.lemmas.List.{get_or_default, drop_all, drop_more, drop-drop, length-drop, append-nil, nil_from_length, take_all}
-use Rattle.std.proofs.lemmas.List.Elements.{filter_more}
-use Rattle.std.proofs.lemmas.List.Splits.{slice_split_first, slice_split_none, length-slice_split}
+use Rattle.std.{proofs.{Common.{◌≡◌, ◌≢◌, ℕ, ◌+◌, ◌<◌, ◌≤◌, Bool, true, false, ◌==◌, cond, List, [], ◌∷◌, ◌++◌, refl, sym, ap, ◌∙◌, arith, length, get_or, take, drop, filter}, lemmas.{Bool.ne_eqb, List.{Sums.position_or_len_is, get_or_default, drop_all, drop_more, drop-drop, length-drop, append-nil, nil_from_length, take_all, Elements.filter_more, Splits.{slice_split_first, slice_split_none, length-slice_split}}}}, specs.Str.Lines.{lines, lines_of_parts, strip_carriage_return}}
 use Rattle.exec_text.specs.{Grammar.says_something, Reading.{said_before, IsBeforeLine, IsNextSaid}}
 
 abbrev newline : ℕ → Bool

@@ -1,12 +1,7 @@
 -- How many scripts count.
-use Rattle.std.proofs.Common.{◌≡◌, ℕ, ◌+◌, ◌-◌, ◌<◌, ◌≤◌, inl, inr, Bool, true, false, cond, List, [], ◌∷◌, ◌++◌, refl, sym, ap, ◌∙◌, arith, map, filter, length, take, drop, append_assoc, length-append, subst}
-use Rattle.std.specs.Str.Lines.{lines}
-use Rattle.std.proofs.lemmas.Bool.Decides.{leb_tells}
-use Rattle.std.proofs.lemmas.List.{take-append-drop, take-take, take_all, append-nil}
-use Rattle.std.proofs.lemmas.List.Elements.{filter-append}
+use Rattle.std.{proofs.{Common.{◌≡◌, ℕ, ◌+◌, ◌-◌, ◌<◌, ◌≤◌, inl, inr, Bool, true, false, cond, List, [], ◌∷◌, ◌++◌, refl, sym, ap, ◌∙◌, arith, map, filter, length, take, drop, append_assoc, length-append, subst}, lemmas.{Bool.Decides.leb_tells, List.{take-append-drop, take-take, take_all, append-nil, Elements.filter-append}}}, specs.Str.Lines.lines}
 use Rattle.exec_machine.specs.declared.{config.{Configuration.Configuration, ScriptWord.ScriptWord}, step.{Step.{Step, TheVariants.{Work, One}}, Action.Action}}
-use Rattle.exec_text.specs.{Grammar.{Meaning, IsWellFormed, says_something, is_script, scripts_among, ScriptsThatCount, CanBegin, trace_lines, text_of_script, text_of_step}, Reading.{said_before, all_said, header, IsNextSaid, IsLastSaid}}
-use Rattle.exec_text.proofs.{Said.said_all, Begins.{Formed, below, lines_are}}
+use Rattle.exec_text.{specs.{Grammar.{Meaning, IsWellFormed, says_something, is_script, scripts_among, ScriptsThatCount, CanBegin, trace_lines, text_of_script, text_of_step}, Reading.{said_before, all_said, header, IsNextSaid, IsLastSaid}}, proofs.{Said.said_all, Begins.{Formed, below, lines_are}}}
 
 -- COUNTING
 

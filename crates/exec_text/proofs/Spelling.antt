@@ -1,11 +1,7 @@
 -- How words are spelled: a name, and numbers behind it.
-use Rattle.std.specs.Cmp.Lexicographic.{pointwise}
-use Rattle.std.proofs.Common.{◌≡◌, ℕ, zero, suc, ◌<◌, ◌≤◌, ◌^◌, cond, eqb, List, [], ◌∷◌, ◌++◌, codes, decimal, refl, sym, ap, ◌∙◌, arith, length, get_or, drop, append_assoc}
-use Rattle.std.proofs.lemmas.List.{length-drop}
-use Rattle.exec_machine.specs.declared.config.{Configuration.Configuration, ScriptWord.ScriptWord}
-use Rattle.exec_machine.specs.declared.config.ScriptWord.TheVariants as word
-use Rattle.exec_text.specs.{Grammar.{HeaderFits, text_of_word, WordFits}, Reading.{NoSpace, IsField, IsNumber, IsCut, IsWord, name_of, numbers_of, IsSpelled, IsNoWord}}
-use Rattle.exec_text.proofs.{Fields.field_same, Numbers.{spaced, AllSmall, spaced_cut, spaced_same, spaced_left, spaced_more, front_number}}
+use Rattle.std.{specs.Cmp.Lexicographic.pointwise, proofs.{Common.{◌≡◌, ℕ, zero, suc, ◌<◌, ◌≤◌, ◌^◌, cond, eqb, List, [], ◌∷◌, ◌++◌, codes, decimal, refl, sym, ap, ◌∙◌, arith, length, get_or, drop, append_assoc}, lemmas.List.length-drop}}
+use Rattle.exec_machine.specs.declared.config.{Configuration.Configuration, ScriptWord.{ScriptWord, ScriptWord as word}}
+use Rattle.exec_text.{specs.{Grammar.{HeaderFits, text_of_word, WordFits}, Reading.{NoSpace, IsField, IsNumber, IsCut, IsWord, name_of, numbers_of, IsSpelled, IsNoWord}}, proofs.{Fields.field_same, Numbers.{spaced, AllSmall, spaced_cut, spaced_same, spaced_left, spaced_more, front_number}}}
 
 two_behind : (a b : ℕ) (rest : List ℕ) → ((32 ∷ decimal a) ++ 32 ∷ decimal b) ++ rest ≡ spaced (a ∷ b ∷ []) rest
 two_behind a b rest = ap (λ (t : List ℕ). 32 ∷ t) (append_assoc (decimal a) (32 ∷ decimal b) rest)

@@ -1,11 +1,8 @@
 -- The parts of a step line.
-use Rattle.std.proofs.Common.{◌≡◌, ◌≢◌, ℕ, ◌<◌, ◌^◌, List, [], ◌∷◌, ◌++◌, codes, decimal, refl, sym, ap, ◌∙◌, arith, length, get_or, drop, append_assoc}
-use Rattle.std.proofs.lemmas.List.{append-nil}
-use Rattle.std.proofs.lemmas.Fmt.{decimal_injective}
+use Rattle.std.proofs.{Common.{◌≡◌, ◌≢◌, ℕ, ◌<◌, ◌^◌, List, [], ◌∷◌, ◌++◌, codes, decimal, refl, sym, ap, ◌∙◌, arith, length, get_or, drop, append_assoc}, lemmas.{List.append-nil, Fmt.decimal_injective}}
 use Rattle.exec_outcomes.specs.{declared.outcome.OpResult.{OpResult, TheVariants.{Count, Errno}}, Text.text_of_result}
 use Rattle.exec_machine.specs.declared.step.{Step.{Step, TheVariants.{Work, One}}, Action.{Action, TheVariants.{Spawn, Wake, GoOn, Clock, Land, SetBusy, EndPoll, Stir}}}
-use Rattle.exec_text.specs.{Grammar.{text_of_step, StepFits, ResultFits}, Reading.{IsCut, NoSpace, IsField, IsNumber}}
-use Rattle.exec_text.proofs.{Fields.field_same, Numbers.{decimal_starts, number_one}}
+use Rattle.exec_text.{specs.{Grammar.{text_of_step, StepFits, ResultFits}, Reading.{IsCut, NoSpace, IsField, IsNumber}}, proofs.{Fields.field_same, Numbers.{decimal_starts, number_one}}}
 
 pub errno_none : (bs code : List ℕ) → bs ≡ 45 ∷ code → ((n : ℕ) → 0 < n → n < 2 ^ 64 → code ≢ decimal n) → (o : OpResult) → ResultFits o → bs ≢ text_of_result o
 errno_none bs code h over (Count n) fits e =

@@ -1,10 +1,7 @@
 -- The lines of tasks, as they are read.
-use Rattle.std.proofs.Common.{◌≡◌, ℕ, ◌+◌, ◌≤◌, List, [], ◌∷◌, ◌++◌, All, Option, None, sym, ap, ◌∙◌, arith, map, length, codes, append_assoc, length-append, subst}
-use Rattle.std.proofs.lemmas.List.{map_push}
-use Rattle.std.proofs.lemmas.List.Elements.{All-push}
+use Rattle.std.proofs.{Common.{◌≡◌, ℕ, ◌+◌, ◌≤◌, List, [], ◌∷◌, ◌++◌, All, Option, None, sym, ap, ◌∙◌, arith, map, length, codes, append_assoc, length-append, subst}, lemmas.List.{map_push, Elements.All-push}}
 use Rattle.exec_machine.specs.declared.config.{Configuration.Configuration, ScriptWord.ScriptWord}
-use Rattle.exec_text.specs.{Grammar.{Meaning, HeaderFits, IsWellFormed, scripts_among, ScriptsThatCount, WordsFit, text_of_script}, Reading.{said_before, header, IsLineOf, IsNextSaid, IsLastSaid}}
-use Rattle.exec_text.proofs.{Scripts.{head_count, counted_by_line, counted_by_end}, Begins.{below, scripts_formed, head_lines, behind_scripts}}
+use Rattle.exec_text.{specs.{Grammar.{Meaning, HeaderFits, IsWellFormed, scripts_among, ScriptsThatCount, WordsFit, text_of_script}, Reading.{said_before, header, IsLineOf, IsNextSaid, IsLastSaid}}, proofs.{Scripts.{head_count, counted_by_line, counted_by_end}, Begins.{below, scripts_formed, head_lines, behind_scripts}}}
 
 -- WHAT A LINE MAY HAVE
 

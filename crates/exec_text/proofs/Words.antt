@@ -1,12 +1,7 @@
 -- The words of a script.
-use Rattle.std.proofs.Common.{◌≡◌, ◌≢◌, ℕ, ◌<◌, suc, true, false, List, [], ◌∷◌, ◌++◌, All, refl, sym, ap, ◌∙◌, subst, arith, length, append_assoc}
-use Rattle.std.proofs.Common.{Option, Some, None, IfSome, IfNone}
-use Rattle.std.proofs.lemmas.Bool.{false≢true}
-use Rattle.std.proofs.lemmas.List.{flat_map_more}
-use Rattle.std.proofs.lemmas.List.Elements.{All-push}
+use Rattle.std.proofs.{Common.{◌≡◌, ◌≢◌, ℕ, ◌<◌, suc, true, false, List, [], ◌∷◌, ◌++◌, All, refl, sym, ap, ◌∙◌, subst, arith, length, append_assoc, Option, Some, None, IfSome, IfNone}, lemmas.{Bool.false≢true, List.{flat_map_more, Elements.All-push}}}
 use Rattle.exec_machine.specs.declared.config.{Configuration.Configuration, ScriptWord.ScriptWord}
-use Rattle.exec_text.specs.{Grammar.{HeaderFits, text_of_word, text_of_words, WordFits}, Reading.{IsCut, NoSpace, IsField, IsWord, name_of, numbers_of, names_within, AllRight, IsLineOf}}
-use Rattle.exec_text.proofs.{Fields.field_same, Numbers.spaced_same, Spelling.{word_is, word_named, same_count, name_clean, numbers_small, IsFront, front_same}}
+use Rattle.exec_text.{specs.{Grammar.{HeaderFits, text_of_word, text_of_words, WordFits}, Reading.{IsCut, NoSpace, IsField, IsWord, name_of, numbers_of, names_within, AllRight, IsLineOf}}, proofs.{Fields.field_same, Numbers.spaced_same, Spelling.{word_is, word_named, same_count, name_clean, numbers_small, IsFront, front_same}}}
 
 -- WHICH WORDS HAVE SO MANY NUMBERS
 

@@ -1,14 +1,10 @@
 -- Which texts are traces, and what each says.
-use Rattle.std.specs.Prelude.{◌≡◌, ℕ, Bool, false, not, ◌==◌, ◌+◌, ◌-◌, ◌^◌, ◌<◌, ◌≤◌, ◌⊎◌, List, [], ◌∷◌, ◌++◌, All, map, filter, length, take, codes, eqb}
-use Rattle.std.specs.Cmp.Lexicographic.{pointwise}
-use Rattle.std.specs.Fmt.{decimal}
-use Rattle.std.specs.List.{flat_map}
-use Rattle.std.specs.Str.Lines.{lines}
+use Rattle.std.specs.{Prelude.{◌≡◌, ℕ, Bool, false, not, ◌==◌, ◌+◌, ◌-◌, ◌^◌, ◌<◌, ◌≤◌, ◌⊎◌, List, [], ◌∷◌, ◌++◌, All, map, filter, length, take, codes, eqb}, Cmp.Lexicographic.pointwise, Fmt.decimal, List.flat_map, Str.Lines.lines}
 use Rattle.exec_outcomes.specs.declared.outcome.OpResult.{OpResult, TheVariants.{Count, Errno}}
 use Rattle.exec_machine.specs.{declared.{config.{Configuration.Configuration, ScriptWord.ScriptWord}, step.{Action.TheVariants.{GoOn, Clock, Land, SetBusy, EndPoll, Stir}, Step.{Step, TheVariants.{Work, One}}}}, Text.text_of_action, Progress.Plan}
+use Rattle.exec_text.specs.declared.trace.Trace.{Trace}
 use Rattle.exec_machine.specs.declared.config.ScriptWord.TheVariants as word
 use Rattle.exec_machine.specs.declared.step.Action.TheVariants as action
-use Rattle.exec_text.specs.declared.trace.Trace.{Trace}
 
 -- what a trace says: what it sets up, and the steps that it asks for
 pub record Meaning : Type 0 where

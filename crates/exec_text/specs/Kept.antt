@@ -1,6 +1,5 @@
 -- What a list that may be lost stands for.
-use Rattle.std.specs.Prelude.{◌≡◌, List, map}
-use Rattle.std.specs.declared.{alloc.Global.Global, vec.Vec.Vec}
+use Rattle.std.specs.{Prelude.{◌≡◌, List, map}, declared.{alloc.Global.Global, vec.Vec.Vec}}
 use Rattle.exec_text.specs.declared.kept.Kept.{Kept, TheVariants.{All, Lost}}
 
 -- it has all of these elements, or they are lost

@@ -1,12 +1,8 @@
 -- What the clauses of the reader say, beside the grammar.
-use Rattle.std.specs.Prelude.{◌≡◌, ◌≢◌, ℕ, ◌+◌, ◌-◌, ◌^◌, ◌<◌, ◌≤◌, ◌⊎◌, Bool, true, nat_lt, List, [], ◌∷◌, ◌++◌, All, Option, Some, None, map, filter, length, take, drop, slice_index, codes}
-use Rattle.std.specs.Fmt.{decimal}
-use Rattle.std.specs.List.{AllByRecursion}
-use Rattle.std.specs.Str.Lines.{lines}
-use Rattle.exec_machine.specs.declared.{config.{Configuration.Configuration, Spin.Spin, ScriptWord.ScriptWord}, step.Action.Action}
-use Rattle.exec_machine.specs.declared.config.ScriptWord.TheVariants as word
-use Rattle.exec_machine.specs.declared.step.Action.TheVariants as action
+use Rattle.std.specs.{Prelude.{◌≡◌, ◌≢◌, ℕ, ◌+◌, ◌-◌, ◌^◌, ◌<◌, ◌≤◌, ◌⊎◌, Bool, true, nat_lt, List, [], ◌∷◌, ◌++◌, All, Option, Some, None, map, filter, length, take, drop, slice_index, codes}, Fmt.decimal, List.AllByRecursion, Str.Lines.lines}
+use Rattle.exec_machine.specs.declared.{config.{Configuration.Configuration, Spin.Spin, ScriptWord.ScriptWord}, step.Action.{Action, Action as action}}
 use Rattle.exec_text.specs.{Grammar.{says_something, header_lines, HeaderFits, text_of_word, text_of_words, text_of_script, text_of_root, WordFits, WordsFit, WordNames, IsTrace, IsFirstFault}, Kept.{Keeps, KeepsLists}, declared.{read_error.ReadError.{ReadError, TheVariants.{Syntax, NoMemory}}, task.{TaskLine.{TaskLine, TheVariants.{Script, Root}}, Tasks.Tasks}}}
+use Rattle.exec_machine.specs.declared.config.ScriptWord.TheVariants as word
 
 -- Why a text was not read: the line is the first at which it is no trace, or it is one, and there was no memory.
 abbrev pub IsUnread : ReadError → List ℕ → Type 0

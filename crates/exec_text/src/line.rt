@@ -1,7 +1,6 @@
 //! The lines of a text, one at a time.
 
-ghost use Rattle.std.specs.Prelude.{◌≡◌, ◌≢◌, ℕ, ◌+◌, ◌-◌, ◌<◌, ◌≤◌, [], ◌∷◌, ◌==◌, length, drop, slice_index, slice_index_or, IfOk, IfErr, IfSome, IfNone};
-ghost use Rattle.std.specs.Str.Lines.{lines, strip_carriage_return};
+ghost use Rattle.std.specs.{Prelude.{◌≡◌, ◌≢◌, ℕ, ◌+◌, ◌-◌, ◌<◌, ◌≤◌, [], ◌∷◌, ◌==◌, length, drop, slice_index, slice_index_or, IfOk, IfErr, IfSome, IfNone}, Str.Lines.{lines, strip_carriage_return}};
 ghost use Rattle.exec_text.specs.{Grammar.says_something, Reading.{IsBeforeLine, IsNextSaid, IsLastSaid, IsMissing}};
 
 use crate::read_error::FaultyLine;

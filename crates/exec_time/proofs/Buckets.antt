@@ -1,14 +1,6 @@
 -- Buckets and active entries, as lists grow and shrink.
-use Rattle.std.proofs.Common.{◌≡◌, ℕ, ◌+◌, ◌-◌, ◌<◌, ◌≤◌, true, not, cond, if◌then◌else◌, ◌==◌, List, [], ◌∷◌, ◌++◌, length, get_or, filter, remove, refl, arith, inl, inr, zero, suc, nat_lt, ◌%◌, Result, Ok, Err, IfOk, IfErr, MatchResult, Option, Some, None, IfSome, slice_get, subst}
-use Rattle.std.proofs.lemmas.Bool.{cases_lt, cases_eq, lt-ltb}
-use Rattle.std.specs.List.{insert, remove_range}
-use Rattle.std.specs.Prelude.{slice_range}
-use Rattle.std.proofs.lemmas.Grind.{common_steps}
-use Rattle.std.proofs.lemmas.List.Sums.{sum_by-insert, sum_by-remove, sum_by-le}
-use Rattle.std.proofs.lemmas.List.{get_or_default}
-use Rattle.std.proofs.lemmas.List.Edits.{get_or-remove_below, get_or-remove_above, length-remove}
-use Rattle.exec_time.specs.{Entries.{is_in_slot, bucket_in, active_in, IsBySlot, IsRising, IsPlaceOf}, declared.entries.Entry.Entry}
-use Rattle.exec_time.proofs.Ranges.{active_among}
+use Rattle.std.{proofs.{Common.{◌≡◌, ℕ, ◌+◌, ◌-◌, ◌<◌, ◌≤◌, true, not, cond, if◌then◌else◌, ◌==◌, List, [], ◌∷◌, ◌++◌, length, get_or, filter, remove, refl, arith, inl, inr, zero, suc, nat_lt, ◌%◌, Result, Ok, Err, IfOk, IfErr, MatchResult, Option, Some, None, IfSome, slice_get, subst}, lemmas.{Bool.{cases_lt, cases_eq, lt-ltb}, Grind.common_steps, List.{Sums.{sum_by-insert, sum_by-remove, sum_by-le}, get_or_default, Edits.{get_or-remove_below, get_or-remove_above, length-remove}}}}, specs.{List.{insert, remove_range}, Prelude.slice_range}}
+use Rattle.exec_time.{specs.{Entries.{is_in_slot, bucket_in, active_in, IsBySlot, IsRising, IsPlaceOf}, declared.entries.Entry.Entry}, proofs.Ranges.active_among}
 
 -- the entries of one slot discarded
 pub bucket_in_discard : (entries : List Entry) (slots gone slot : ℕ) → bucket_in (filter (λ e. not (is_in_slot slots gone e)) entries) slots slot ≡ (if gone == slot then [] else bucket_in entries slots slot)

@@ -1,11 +1,7 @@
 -- What an ended sleeper leaves.
-use Rattle.std.proofs.Common.{◌≡◌, ℕ, ◌+◌, ◌≤◌, Bool, cond, length, Option, Some, None, Result, refl, ap, arith, inl, inr, length-append, unwrap_or}
-use Rattle.std.proofs.lemmas.Grind.{common_steps}
-use Rattle.std.proofs.lemmas.Bool.{cases_lt, le-leb, lt-leb}
-use Rattle.std.proofs.lemmas.List.Sums.{sum_by-set}
+use Rattle.std.proofs.{Common.{◌≡◌, ℕ, ◌+◌, ◌≤◌, Bool, cond, length, Option, Some, None, Result, refl, ap, arith, inl, inr, length-append, unwrap_or}, lemmas.{Grind.common_steps, Bool.{cases_lt, le-leb, lt-leb}, List.Sums.sum_by-set}}
 use Rattle.exec_base.specs.{Slab.{Slab, value_at, value_in, slot_at, is_live, live_count, removed, freed}, declared.{error.Error.Error, slab.{Id.Id, Slot.{Slot, TheVariants.{Live, Vacant, Retired}}}}}
-use Rattle.exec_time.specs.{declared.{notes.Notes.Notes, timers.{Sleeper.Sleeper, Observer.{Observer, TheVariants.{Local, Forwarded}}}}, Notes.HasRoom, Sleepers.{Ends, IsDue, IsFirst, left_at, wakes_of, completions_of}}
-use Rattle.exec_time.proofs.Sleepers.{same_or_not, none_past}
+use Rattle.exec_time.{specs.{declared.{notes.Notes.Notes, timers.{Sleeper.Sleeper, Observer.{Observer, TheVariants.{Local, Forwarded}}}}, Notes.HasRoom, Sleepers.{Ends, IsDue, IsFirst, left_at, wakes_of, completions_of}}, proofs.Sleepers.{same_or_not, none_past}}
 
 abbrev one_if : Bool → ℕ
 one_if b = cond b 1 0

@@ -1,13 +1,8 @@
 -- How a change of one sleeper keeps the index.
-use Rattle.std.proofs.Common.{◌≡◌, ◌≢◌, ℕ, ◌<◌, ◌≤◌, ◌==◌, ◌⊎◌, Bool, true, false, cond, List, [], ◌∷◌, length, Option, Some, None, refl, sym, ap, ◌∙◌, arith, inl, inr}
-use Rattle.std.proofs.lemmas.Grind.{common_steps}
-use Rattle.std.proofs.lemmas.Bool.{false≢true}
-use Rattle.std.specs.{List.list_any, Option.option_map}
-use Rattle.std.specs.Ordering.{is_eq, is_gt}
-use Rattle.std.specs.BTreeSet as set
+use Rattle.std.{proofs.{Common.{◌≡◌, ◌≢◌, ℕ, ◌<◌, ◌≤◌, ◌==◌, ◌⊎◌, Bool, true, false, cond, List, [], ◌∷◌, length, Option, Some, None, refl, sym, ap, ◌∙◌, arith, inl, inr}, lemmas.{Grind.common_steps, Bool.false≢true}}, specs.{List.list_any, Option.option_map, Ordering.{is_eq, is_gt}}}
 use Rattle.exec_base.specs.{Slab.{Slab, value_at, next_id, IsPast, IsFull, IsRefused, Updates}, declared.slab.{Id.Id, InsertError.{InsertError, TheVariants.{Full, NoMemory}}}}
-use Rattle.exec_time.proofs.Sleepers.{same_or_not, none_past}
-use Rattle.exec_time.specs.{declared.timers.{Sleeper.Sleeper, TimerId.TimerId}, Sleepers.{IsFirst, IsEmpty}, Index.{by_deadline, sleeps_until, IsIndexed}}
+use Rattle.exec_time.{proofs.Sleepers.{same_or_not, none_past}, specs.{declared.timers.{Sleeper.Sleeper, TimerId.TimerId}, Sleepers.{IsFirst, IsEmpty}, Index.{by_deadline, sleeps_until, IsIndexed}}}
+use Rattle.std.specs.BTreeSet as set
 
 -- one that isn't after another has no later deadline, and where that is the same no higher index
 not_after : (a b : ℕ × TimerId) → is_gt (by_deadline a b) ≡ false → (a.0 ≤ b.0) × (a.0 ≡ b.0 → a.1.0.index ≤ b.1.0.index)

@@ -1,14 +1,7 @@
 -- Which buckets an advance passes.
-use Rattle.std.proofs.Common.{◌≡◌, ℕ, ◌+◌, ◌-◌, ◌*◌, ◌/◌, ◌%◌, ◌<◌, ◌≤◌, ◌==◌, true, false, nat_lt, List, [], ◌∷◌, map, Contains, Option, None, Some, refl, sym, ◌∙◌, arith, inl, inr}
-use Rattle.std.proofs.lemmas.Grind.{common_steps}
-use Rattle.std.proofs.lemmas.Bool.{cases_lt, cases_eq, lt-ltb, le-leb, lt-leb}
-use Rattle.std.proofs.lemmas.List.Concat.{flat_map-cons}
-use Rattle.std.proofs.lemmas.List.Elements.{Contains-append_left, Contains-append_right}
-use Rattle.std.proofs.Math.Nat.{le-div_iff_mul-le, div-lt_iff_lt-mul, mod-lt, mod-eq_of_lt, mul-le-mul_right}
-use Rattle.std.specs.List.{flat_map, range_with_len, list_any}
+use Rattle.std.{proofs.{Common.{◌≡◌, ℕ, ◌+◌, ◌-◌, ◌*◌, ◌/◌, ◌%◌, ◌<◌, ◌≤◌, ◌==◌, true, false, nat_lt, List, [], ◌∷◌, map, Contains, Option, None, Some, refl, sym, ◌∙◌, arith, inl, inr}, lemmas.{Grind.common_steps, Bool.{cases_lt, cases_eq, lt-ltb, le-leb, lt-leb}, List.{Concat.flat_map-cons, Elements.{Contains-append_left, Contains-append_right}}}, Math.Nat.{le-div_iff_mul-le, div-lt_iff_lt-mul, mod-lt, mod-eq_of_lt, mul-le-mul_right}}, specs.List.{flat_map, range_with_len, list_any}}
 use Rattle.exec_base.specs.declared.slab.Id.{Id}
-use Rattle.exec_time.specs.{Wheel.{Wheel, IsSettled, IsWithinReach, fresh, scheduled, removed, slot_of, tick_at, moment_of, least_active}, Turning.{advanced, turned, turned_out, slots_passed}}
-use Rattle.exec_time.proofs.{Ranges.{find_before, slot_of_later, slot_of_passed}, Turns.{advanced_stays, advanced_moves, turned_early, turned_due}}
+use Rattle.exec_time.{specs.{Wheel.{Wheel, IsSettled, IsWithinReach, fresh, scheduled, removed, slot_of, tick_at, moment_of, least_active}, Turning.{advanced, turned, turned_out, slots_passed}}, proofs.{Ranges.{find_before, slot_of_later, slot_of_passed}, Turns.{advanced_stays, advanced_moves, turned_early, turned_due}}}
 
 -- the reach of a wheel goes on
 pub reach_fresh : (horizon tick start slots : ℕ) → IsWithinReach (fresh horizon tick start slots)

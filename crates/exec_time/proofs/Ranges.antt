@@ -1,13 +1,5 @@
 -- Ranges of ticks, the first of them that passes a test, and their slots.
-use Rattle.std.proofs.Common.{◌≡◌, ℕ, ◌+◌, ◌-◌, ◌/◌, ◌<◌, ◌≤◌, ◌%◌, zero, suc, Bool, true, false, cond, ◌==◌, List, [], ◌∷◌, length, map, Contains, All, nat_lt, nat_le, min, Option, None, Some, refl, sym, arith, inl, inr}
-use Rattle.std.proofs.lemmas.Grind.{common_steps}
-use Rattle.std.proofs.lemmas.List.Sums.{sum_by-le, get_or-le-sum_by, count_by-le-length}
-use Rattle.std.proofs.lemmas.Bool.{cases_lt, cases_eq}
-use Rattle.std.proofs.Math.Nat.{mul-le-mul_left, div-add-mod}
-use Rattle.std.specs.List.{range_with_len, find, list_any}
-use Rattle.std.specs.Option.{IfNone, IfSome}
-use Rattle.std.proofs.lemmas.Bool.{lt-ltb, le-ltb}
-use Rattle.std.proofs.lemmas.Bool.Decides.{nat_tests}
+use Rattle.std.{proofs.{Common.{◌≡◌, ℕ, ◌+◌, ◌-◌, ◌/◌, ◌<◌, ◌≤◌, ◌%◌, zero, suc, Bool, true, false, cond, ◌==◌, List, [], ◌∷◌, length, map, Contains, All, nat_lt, nat_le, min, Option, None, Some, refl, sym, arith, inl, inr}, lemmas.{Grind.common_steps, List.Sums.{sum_by-le, get_or-le-sum_by, count_by-le-length}, Bool.{cases_lt, cases_eq, lt-ltb, le-ltb, Decides.nat_tests}}, Math.Nat.{mul-le-mul_left, div-add-mod}}, specs.{List.{range_with_len, find, list_any}, Option.{IfNone, IfSome}}}
 use Rattle.exec_time.specs.Entries.{active_in}
 
 -- the first number of a range that passes

@@ -1,11 +1,5 @@
 -- The sizes of wheels.
-use Rattle.std.proofs.Common.{◌≡◌, ℕ, ◌+◌, ◌*◌, ◌/◌, ◌^◌, ◌<◌, ◌≤◌, zero, suc, Bool, true, false, List, [], ◌∷◌, None, Some, nat_le, ◌||◌, max, map, refl, sym, ◌∙◌, ap, arith, inl, inr}
-use Rattle.std.proofs.lemmas.Grind.{common_steps}
-use Rattle.std.proofs.lemmas.Bool.{cases_lt, cases_Bool, le-leb, lt-leb, leb-true}
-use Rattle.std.proofs.lemmas.Bool.Decides.{nat_tests}
-use Rattle.std.proofs.Math.Nat.{pow-le-pow_right}
-use Rattle.std.specs.List.{find, range_with_len, list_all}
-use Rattle.std.specs.Int.{IsPowerOfTwo}
+use Rattle.std.{proofs.{Common.{◌≡◌, ℕ, ◌+◌, ◌*◌, ◌/◌, ◌^◌, ◌<◌, ◌≤◌, zero, suc, Bool, true, false, List, [], ◌∷◌, None, Some, nat_le, ◌||◌, max, map, refl, sym, ◌∙◌, ap, arith, inl, inr}, lemmas.{Grind.common_steps, Bool.{cases_lt, cases_Bool, le-leb, lt-leb, leb-true, Decides.nat_tests}}, Math.Nat.pow-le-pow_right}, specs.{List.{find, range_with_len, list_all}, Int.IsPowerOfTwo}}
 use Rattle.exec_time.specs.Layouts.{sizes, slots_needed, is_out_of_range, slots_of}
 
 -- the horizon or the tick is out of range

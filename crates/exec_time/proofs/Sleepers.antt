@@ -1,9 +1,6 @@
 -- Ids are the same or not, and no sleeper lies past the slots.
-use Rattle.std.proofs.Common.{◌≡◌, ◌≢◌, ◌≤◌, ◌⊎◌, length, None, refl, ap, inl, inr}
-use Rattle.std.proofs.lemmas.Bool.{cases_eq}
-use Rattle.std.proofs.lemmas.List.{get_or_past}
-use Rattle.exec_base.specs.{Slab.{Slab, value_at}, declared.slab.{Id.Id, Slot.{TheVariants.{Vacant}}}}
-use Rattle.exec_base.proofs.Slots.{same_id}
+use Rattle.std.proofs.{Common.{◌≡◌, ◌≢◌, ◌≤◌, ◌⊎◌, length, None, refl, ap, inl, inr}, lemmas.{Bool.cases_eq, List.get_or_past}}
+use Rattle.exec_base.{specs.{Slab.{Slab, value_at}, declared.slab.{Id.Id, Slot.TheVariants.Vacant}}, proofs.Slots.same_id}
 
 pub same_or_not : (a b : Id) → (a ≡ b) ⊎ (a ≢ b)
 same_or_not a b =

@@ -1,13 +1,7 @@
 -- Where the ids of a wheel come from.
-use Rattle.std.proofs.Common.{◌≡◌, ℕ, ◌+◌, ◌-◌, ◌<◌, ◌==◌, ◌⊎◌, Bool, true, false, if◌then◌else◌, List, [], ◌∷◌, ◌++◌, drop, Contains, Option, None, Some, refl, sym, ap, subst, arith, inl, inr}
-use Rattle.std.proofs.lemmas.Grind.{common_steps}
-use Rattle.std.proofs.lemmas.Bool.{cases_lt, cases_eq}
-use Rattle.std.proofs.lemmas.List.Concat.{flat_map-cons}
-use Rattle.std.proofs.lemmas.List.Elements.{Contains-append_cases, Contains-append_right}
-use Rattle.std.specs.List.{flat_map, list_any}
+use Rattle.std.{proofs.{Common.{◌≡◌, ℕ, ◌+◌, ◌-◌, ◌<◌, ◌==◌, ◌⊎◌, Bool, true, false, if◌then◌else◌, List, [], ◌∷◌, ◌++◌, drop, Contains, Option, None, Some, refl, sym, ap, subst, arith, inl, inr}, lemmas.{Grind.common_steps, Bool.{cases_lt, cases_eq}, List.{Concat.flat_map-cons, Elements.{Contains-append_cases, Contains-append_right}}}}, specs.List.{flat_map, list_any}}
 use Rattle.exec_base.specs.declared.slab.Id.{Id}
-use Rattle.exec_time.specs.{Wheel.{Wheel, fresh, scheduled, removed, slot_of, tick_at, least_active}, Turning.{advanced, turned, slots_passed, emptied}, WheelRuns.{Call, Schedule, Remove, Advance, HandOut, after, after_all, IsAmong, WasScheduled}}
-use Rattle.exec_time.proofs.Turns.{advanced_stays, advanced_moves, turned_early, turned_due}
+use Rattle.exec_time.{specs.{Wheel.{Wheel, fresh, scheduled, removed, slot_of, tick_at, least_active}, Turning.{advanced, turned, slots_passed, emptied}, WheelRuns.{Call, Schedule, Remove, Advance, HandOut, after, after_all, IsAmong, WasScheduled}}, proofs.Turns.{advanced_stays, advanced_moves, turned_early, turned_due}}
 
 -- no list of one is without it
 none_in : (id : Id) → Contains [] id → ⊥

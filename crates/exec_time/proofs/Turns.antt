@@ -1,8 +1,6 @@
 -- How a wheel goes on, case by case.
-use Rattle.std.proofs.Common.{◌≡◌, ℕ, ◌<◌, ◌≤◌, [], Option, None, Some, refl, sym, ◌∙◌, arith}
-use Rattle.std.proofs.lemmas.Bool.{lt-ltb, le-ltb, le-leb, lt-leb}
-use Rattle.exec_time.specs.{Entries.{bucket_in, active_in}, Wheel.{Wheel, fresh, tick_at, least_active}, Turning.{Turn, advanced, turned, turned_out}}
-use Rattle.exec_time.proofs.{Views.{shown, same_but}, Ranges.active_nowhere}
+use Rattle.std.proofs.{Common.{◌≡◌, ℕ, ◌<◌, ◌≤◌, [], Option, None, Some, refl, sym, ◌∙◌, arith}, lemmas.Bool.{lt-ltb, le-ltb, le-leb, lt-leb}}
+use Rattle.exec_time.{specs.{Entries.{bucket_in, active_in}, Wheel.{Wheel, fresh, tick_at, least_active}, Turning.{Turn, advanced, turned, turned_out}}, proofs.{Views.{shown, same_but}, Ranges.active_nowhere}}
 
 -- it doesn't move
 pub advanced_stays : (w : Wheel) (now tick : ℕ) → tick ≡ tick_at w now → tick ≤ w.current → (let t : Turn = record { wheel = w; answer = None } in t) ≡ advanced w now

@@ -1,16 +1,7 @@
 -- What a wheel shows, as its lists grow and shrink.
-use Rattle.std.proofs.Common.{◌≡◌, ℕ, ◌+◌, ◌<◌, ◌%◌, false, not, if◌then◌else◌, ◌==◌, List, [], ◌∷◌, ◌++◌, map, filter, refl, sym, ◌∙◌, ap, arith, inl, inr, nat_lt, ◌-◌}
-use Rattle.std.proofs.lemmas.Bool.{cases_eq}
-use Rattle.std.proofs.lemmas.Bool.Decides.{nat_tests}
-use Rattle.std.proofs.lemmas.Grind.{common_steps}
-use Rattle.std.proofs.lemmas.Grind.{flat_map-append}
-use Rattle.std.proofs.lemmas.List.{append-nil}
-use Rattle.std.proofs.lemmas.List.FromFn.{map-range_with_len_more}
-use Rattle.exec_time.proofs.{Ranges.slot_of_next, Buckets.bucket_in_discard}
-use Rattle.std.proofs.lemmas.List.Folds.{list_any-append}
-use Rattle.std.specs.List.{flat_map, range_with_len, list_any}
+use Rattle.std.{proofs.{Common.{◌≡◌, ℕ, ◌+◌, ◌<◌, ◌%◌, false, not, if◌then◌else◌, ◌==◌, List, [], ◌∷◌, ◌++◌, map, filter, refl, sym, ◌∙◌, ap, arith, inl, inr, nat_lt, ◌-◌}, lemmas.{Bool.{cases_eq, Decides.nat_tests}, Grind.{common_steps, flat_map-append}, List.{append-nil, FromFn.map-range_with_len_more, Folds.list_any-append}}}, specs.List.{flat_map, range_with_len, list_any}}
+use Rattle.exec_time.{proofs.{Ranges.slot_of_next, Buckets.bucket_in_discard}, specs.{Entries.{is_in_slot, bucket_in, active_in}, Wheel.{Wheel, slot_of, scheduled, removed}, Turning.emptied, declared.entries.Entry.Entry}}
 use Rattle.exec_base.specs.declared.slab.Id.{Id}
-use Rattle.exec_time.specs.{Entries.{is_in_slot, bucket_in, active_in}, Wheel.{Wheel, slot_of, scheduled, removed}, Turning.emptied, declared.entries.Entry.Entry}
 
 -- a wheel of lists
 abbrev pub shown : ℕ → ℕ → ℕ → ℕ → ℕ → List Entry → List ℕ → List Id → Wheel

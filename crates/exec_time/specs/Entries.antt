@@ -1,6 +1,5 @@
 -- Buckets and active entries, kept as lists.
-use Rattle.std.specs.Prelude.{ℕ, ◌%◌, ◌<◌, ◌≤◌, Bool, List, ◌==◌, map, filter, count_by, length, slice_index_or}
-use Rattle.std.specs.List.Sorted.{IsNonDecreasingBy}
+use Rattle.std.specs.{Prelude.{ℕ, ◌%◌, ◌<◌, ◌≤◌, Bool, List, ◌==◌, map, filter, count_by, length, slice_index_or}, List.Sorted.IsNonDecreasingBy}
 use Rattle.exec_base.specs.declared.slab.Id.{Id}
 use Rattle.exec_time.specs.declared.entries.Entry.{Entry}
 

@@ -1,8 +1,5 @@
 -- How the sleepers of a worker are found. No public clause cites this module.
-use Rattle.std.specs.Prelude.{◌≡◌, ℕ, ◌<◌, Bool, false, Option, Some, None, ◌==◌}
-use Rattle.std.specs.declared.cmp.Ordering.{Ordering}
-use Rattle.std.specs.Ordering.{nat_cmp, ordering_then}
-use Rattle.std.specs.BTreeSet.{BTreeSet, contains}
+use Rattle.std.specs.{Prelude.{◌≡◌, ℕ, ◌<◌, Bool, false, Option, Some, None, ◌==◌}, declared.cmp.Ordering.Ordering, Ordering.{nat_cmp, ordering_then}, BTreeSet.{BTreeSet, contains}}
 use Rattle.exec_base.specs.{Slab.{Slab, value_at}, declared.slab.Id.Id}
 use Rattle.exec_time.specs.declared.timers.{Sleeper.Sleeper, TimerId.TimerId}
 

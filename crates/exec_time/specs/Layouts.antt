@@ -1,7 +1,5 @@
 -- How many slots a wheel has.
-use Rattle.std.specs.Prelude.{ℕ, ◌+◌, ◌^◌, Bool, List, Option, None, if◌then◌else◌, ◌==◌, ◌||◌, nat_le, nat_lt, map, find}
-use Rattle.std.specs.List.{range_with_len}
-use Rattle.std.specs.Int.{div_ceil}
+use Rattle.std.specs.{Prelude.{ℕ, ◌+◌, ◌^◌, Bool, List, Option, None, if◌then◌else◌, ◌==◌, ◌||◌, nat_le, nat_lt, map, find}, List.range_with_len, Int.div_ceil}
 use Rattle.exec_base.specs.declared.limits.TheConstants.{LONGEST_TIMEOUT}
 
 -- the longest horizon and the longest tick: 30 years of 365 days, in nanoseconds

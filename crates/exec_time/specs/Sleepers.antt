@@ -1,6 +1,5 @@
 -- The sleepers of a worker: a slab of deadlines with their observers.
-use Rattle.std.specs.Prelude.{◌≡◌, ℕ, ◌<◌, ◌≤◌, Bool, true, false, List, [], ◌∷◌, Option, Some, None, Result, Ok, Err, if◌then◌else◌, ◌==◌, nat_le}
-use Rattle.std.specs.Option.{option_map}
+use Rattle.std.specs.{Prelude.{◌≡◌, ℕ, ◌<◌, ◌≤◌, Bool, true, false, List, [], ◌∷◌, Option, Some, None, Result, Ok, Err, if◌then◌else◌, ◌==◌, nat_le}, Option.option_map}
 use Rattle.exec_base.specs.{Slab.{Slab, value_at, removed, Updates}, declared.{error.Error.{Error, TheVariants.Closed}, slab.Id.Id, task_no.TaskNo.TaskNo}}
 use Rattle.exec_time.specs.{declared.{notes.{ForwardedResult.ForwardedResult, Notes.Notes}, timers.{Sleeper.Sleeper, Observer.{Observer, TheVariants.{Local, Forwarded}}, Observation.{Observation, TheVariants.{Ready, Pending, Refresh}}}}, Notes.Adds}
 

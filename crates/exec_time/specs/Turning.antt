@@ -1,6 +1,5 @@
 -- How a wheel goes on.
-use Rattle.std.specs.Prelude.{ℕ, ◌+◌, ◌-◌, Bool, List, [], ◌++◌, length, Option, None, Some, if◌then◌else◌, ◌==◌, ◌||◌, nat_le, nat_lt, map}
-use Rattle.std.specs.List.{flat_map, range_with_len, list_any}
+use Rattle.std.specs.{Prelude.{ℕ, ◌+◌, ◌-◌, Bool, List, [], ◌++◌, length, Option, None, Some, if◌then◌else◌, ◌==◌, ◌||◌, nat_le, nat_lt, map}, List.{flat_map, range_with_len, list_any}}
 use Rattle.exec_base.specs.declared.slab.Id.{Id}
 use Rattle.exec_time.specs.Wheel.{Wheel, slot_of, tick_at, least_active}
 

@@ -1,8 +1,5 @@
 -- A wheel of deadlines.
-use Rattle.std.specs.Prelude.{ℕ, ◌+◌, ◌-◌, ◌*◌, ◌/◌, ◌%◌, ◌<◌, List, [], ◌∷◌, ◌++◌, Option, None, Some, if◌then◌else◌, ◌==◌, nat_le, nat_lt, ◌&&◌, find}
-use Rattle.std.specs.Option.{option_map}
-use Rattle.std.specs.List.{range_with_len}
-use Rattle.std.specs.Int.{div_ceil}
+use Rattle.std.specs.{Prelude.{ℕ, ◌+◌, ◌-◌, ◌*◌, ◌/◌, ◌%◌, ◌<◌, List, [], ◌∷◌, ◌++◌, Option, None, Some, if◌then◌else◌, ◌==◌, nat_le, nat_lt, ◌&&◌, find}, Option.option_map, List.range_with_len, Int.div_ceil}
 use Rattle.exec_base.specs.declared.slab.Id.{Id}
 
 -- moments and lengths of time are in nanoseconds

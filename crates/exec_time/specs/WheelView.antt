@@ -1,7 +1,5 @@
 -- What a `TimeoutWheel` shows.
-use Rattle.std.specs.Prelude.{ℕ, ◌-◌, min, vec_len}
-use Rattle.std.specs.Vec.{vec_capacity}
-use Rattle.std.specs.VecDeque.{deque_len, deque_capacity}
+use Rattle.std.specs.{Prelude.{ℕ, ◌-◌, min, vec_len}, Vec.vec_capacity, VecDeque.{deque_len, deque_capacity}}
 use Rattle.exec_time.specs.{Entries.{bucket_in, active_in}, Wheel.Wheel, declared.wheel.TimeoutWheel.TimeoutWheel}
 
 -- the wheel that it stands for

@@ -3,10 +3,7 @@
 //! The bucket of a slot is the entries whose tick falls into it, in their order. Since they stand by slot, one is put in
 //! behind its bucket, and where a bucket begins and ends is found by halving.
 
-ghost use Rattle.std.specs.Prelude.{◌≡◌, ℕ, ◌+◌, ◌<◌, ◌≤◌, ◌%◌, [], ◌∷◌, ◌++◌, false, length, filter, not, vec_len, slice_index_or, ◌==◌, if◌then◌else◌, slice_range};
-ghost use Rattle.std.specs.List.{remove_range};
-ghost use Rattle.std.specs.Vec.{vec_capacity};
-ghost use Rattle.std.specs.VecDeque.{deque_len, deque_capacity};
+ghost use Rattle.std.specs.{Prelude.{◌≡◌, ℕ, ◌+◌, ◌<◌, ◌≤◌, ◌%◌, [], ◌∷◌, ◌++◌, false, length, filter, not, vec_len, slice_index_or, ◌==◌, if◌then◌else◌, slice_range}, List.remove_range, Vec.vec_capacity, VecDeque.{deque_len, deque_capacity}};
 ghost use Rattle.exec_time.specs.Entries.{bucket_in, is_in_slot, IsBySlot};
 
 use crate::wheel::Tick;

@@ -1,10 +1,8 @@
 //! Worked examples of wheels, sleepers and sleeps, proved by computation.
 
 ghost use Rattle.std.specs.Prelude.{◌≡◌, ℕ, ◌+◌, ◌-◌, ◌^◌, [], ◌∷◌, Some, None, Ok, Err, true, false};
-ghost use Rattle.exec_time.specs.{Layouts.{slots_of, longest}, Wheel.{target_of, scheduled, removed, next_moment}, Turning.advanced, WheelExamples.{ms, name, short, late, three_ahead, two_ahead, one_stale, two_left}, Sleepers.{wakes_of, completions_of, is_forwarded, observation, displaced, deadline_at, left_at, IsFirst, IsDue, IsLowest}, SleepExamples.{task, named, local, forwarded, two}, Sleep.{asleep, heard, after_hearing, sleeper_of}, declared.timers.{TimerId.TimerId as TimerName, Observation.TheVariants.{Ready, Pending, Refresh}}};
-ghost use Rattle.exec_base.specs.Slab.{value_at, removed as gone_from};
-ghost use Rattle.exec_base.specs.declared.error.Error.TheVariants as error;
-ghost use Rattle.exec_time.specs.declared.sleep.SleepState.TheVariants as state;
+ghost use Rattle.exec_time.specs.{Layouts.{slots_of, longest}, Wheel.{target_of, scheduled, removed, next_moment}, Turning.advanced, WheelExamples.{ms, name, short, late, three_ahead, two_ahead, one_stale, two_left}, Sleepers.{wakes_of, completions_of, is_forwarded, observation, displaced, deadline_at, left_at, IsFirst, IsDue, IsLowest}, SleepExamples.{task, named, local, forwarded, two}, Sleep.{asleep, heard, after_hearing, sleeper_of}, declared.{timers.{TimerId.TimerId as TimerName, Observation.TheVariants.{Ready, Pending, Refresh}}, sleep.SleepState.SleepState as state}};
+ghost use Rattle.exec_base.specs.{Slab.{value_at, removed as gone_from}, declared.error.Error.Error as error};
 
 /// How many slots a wheel has, and which layouts there are not.
 #[tactic(auto, unfolding(crate::specs::Layouts::slots_of))]

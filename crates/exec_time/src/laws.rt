@@ -1,7 +1,6 @@
 //! Laws of wheels, and of the order of sleepers.
 
-ghost use Rattle.std.specs.Prelude.{◌≡◌, ◌↔◌, ℕ, ◌+◌, ◌<◌, ◌≤◌, List, [], Contains};
-ghost use Rattle.std.specs.declared.cmp.Ordering.TheVariants.{Less, Equal, Greater};
+ghost use Rattle.std.specs.{Prelude.{◌≡◌, ◌↔◌, ℕ, ◌+◌, ◌<◌, ◌≤◌, List, [], Contains}, declared.cmp.Ordering.TheVariants.{Less, Equal, Greater}};
 ghost use Rattle.exec_base.specs.{Slab.IsBefore, declared.slab.Id.Id};
 ghost use Rattle.exec_time.specs.{Wheel.{Wheel, IsSettled, IsWithinReach, fresh, scheduled, removed, slot_of, moment_of}, Turning.advanced, WheelRuns.{Call, WasScheduled, after_all}, declared.timers.TimerId.TimerId};
 

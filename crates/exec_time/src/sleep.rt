@@ -19,8 +19,7 @@
 
 ghost use Rattle.std.specs.Prelude.{◌≡◌, ◌≢◌, ℕ, ◌-◌, ◌<◌, ◌≤◌, [], Some, None, Ok, Err, true, false, IfOk, OnOk, IfErr};
 ghost use Rattle.exec_time.specs.{declared.{sleep.TimerMessage.TheVariants.{Cancel, Forward}, timers.{Observer.TheVariants.Local, Sleeper.Sleeper as Sleeping, TimerId.TimerId as TimerName}}, Sleepers.{is_forwarded, completions_of}, Notes.{Adds, HasRoom}};
-ghost use Rattle.exec_base.specs.{OneShot.{poll_answer, polled}, Slab.{value_at, removed, written}};
-ghost use Rattle.exec_base.specs.declared.error.Error.TheVariants as error;
+ghost use Rattle.exec_base.specs.{OneShot.{poll_answer, polled}, Slab.{value_at, removed, written}, declared.error.Error.Error as error};
 ghost use Rattle.exec_time.specs.declared.sleep.SleepState.TheVariants as state;
 
 use crate::notes::Notes;

@@ -1,8 +1,7 @@
 //! The ticks of the active entries of a wheel, ascending, so that the least is the first, and one is found by halving.
 //! What is staged last mostly ends last: a deque takes the first ones out and puts late ones in without moving the rest.
 
-ghost use Rattle.std.specs.Prelude.{◌≡◌, ℕ, ◌+◌, ◌-◌, ◌<◌, ◌≤◌, length, nat_lt, slice_index_or, ◌==◌, if◌then◌else◌, true, Contains, All, IfSome, IfNone, IfOk, IfErr, MatchResult};
-ghost use Rattle.std.specs.VecDeque.{deque_len, deque_capacity};
+ghost use Rattle.std.specs.{Prelude.{◌≡◌, ℕ, ◌+◌, ◌-◌, ◌<◌, ◌≤◌, length, nat_lt, slice_index_or, ◌==◌, if◌then◌else◌, true, Contains, All, IfSome, IfNone, IfOk, IfErr, MatchResult}, VecDeque.{deque_len, deque_capacity}};
 ghost use Rattle.exec_time.specs.Entries.{active_in, IsRising, IsPlaceOf};
 
 use crate::wheel::Tick;

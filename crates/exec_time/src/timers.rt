@@ -12,8 +12,7 @@
 //! that the index has each sleeper and nothing else is the invariant, `IsIndexed`.
 
 ghost use Rattle.std.specs.Prelude.{◌≡◌, ℕ, ◌+◌, ◌<◌, ◌≤◌, ◌↔◌, [], Some, None, Ok, Err, IsSome, IfSome, IfNone, IfOk, IfErr, ◌⊎◌, OnOk, OnErr, OnSome, false};
-ghost use Rattle.exec_base.specs.{Slab.{value_at, next_id, inserted, removed, written, live_count, IsFull, IsPast, Updates, TakesId}, declared.slab.Id.Id as Name};
-ghost use Rattle.exec_base.specs.declared.error.Error.TheVariants as error;
+ghost use Rattle.exec_base.specs.{Slab.{value_at, next_id, inserted, removed, written, live_count, IsFull, IsPast, Updates, TakesId}, declared.{slab.Id.Id as Name, error.Error.Error as error}};
 ghost use Rattle.exec_time.specs.{Notes.{HasRoom, Adds}, Sleepers.{wakes_of, completions_of}};
 
 use crate::notes::{ForwardedResult, Notes};

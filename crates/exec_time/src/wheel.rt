@@ -6,9 +6,7 @@
 //! active is stale: its id stays in its bucket, and may come out later, so a caller must know which ids still
 //! stand for something. Moments and lengths of time are in nanoseconds.
 
-ghost use Rattle.std.specs.Prelude.{◌≡◌, ℕ, ◌+◌, ◌-◌, ◌*◌, ◌^◌, ◌<◌, ◌≤◌, [], ◌∷◌, map, not, ◌||◌, nat_lt, vec_len, min, ◌==◌, ◌%◌, ◌↔◌, IsTrue, if◌then◌else◌, IsSome, IfSome, IfNone, IsSomeAnd, IfOk, OnOk, MatchResult};
-ghost use Rattle.std.specs.List.{range_with_len};
-ghost use Rattle.std.specs.VecDeque.{deque_len, deque_capacity};
+ghost use Rattle.std.specs.{Prelude.{◌≡◌, ℕ, ◌+◌, ◌-◌, ◌*◌, ◌^◌, ◌<◌, ◌≤◌, [], ◌∷◌, map, not, ◌||◌, nat_lt, vec_len, min, ◌==◌, ◌%◌, ◌↔◌, IsTrue, if◌then◌else◌, IsSome, IfSome, IfNone, IsSomeAnd, IfOk, OnOk, MatchResult}, List.range_with_len, VecDeque.{deque_len, deque_capacity}};
 ghost use Rattle.exec_time.specs.{Layouts.{slots_of, is_out_of_range as out_of_range}, Entries.{active_in, IsBySlot, IsRising}};
 
 use crate::entries::{Entry, collect, discard, has_any, make_way, put};

@@ -2,8 +2,7 @@
 
 ghost use Rattle.std.specs.Prelude.{◌≡◌, ◌+◌, ◌≤◌, Some, IsTrue, false, vec_len, vec_capacity};
 ghost use Rattle.exec_base.specs.Slab.{value_at};
-ghost use Rattle.exec_time.specs.{Notes.HasRoom, Sleepers.is_forwarded, declared.timers.TimerId.TimerId as TimerName};
-ghost use Rattle.exec_time.specs.declared.sleep.SleepState.TheVariants as state;
+ghost use Rattle.exec_time.specs.{Notes.HasRoom, Sleepers.is_forwarded, declared.{timers.TimerId.TimerId as TimerName, sleep.SleepState.SleepState as state}};
 
 use crate::found::{holds, same};
 use exec_base::error::Error;

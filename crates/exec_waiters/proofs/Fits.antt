@@ -1,28 +1,19 @@
 -- What an output is of, and what bytes that move leave of a request.
-use Rattle.std.proofs.Common.{◌≡◌, ℕ, Bool, true, false, cond, Option, Some, None, Result, Ok, Err, refl, sym, ap, length}
+use Rattle.std.proofs.Common.{◌≡◌, ℕ, Bool, true, false, cond, Option, Some, None, Result, Ok, Err, refl, sym, ap, arith, length}
 use Rattle.std.specs.Result.{OnOk, OnErr}
-use Rattle.exec_outcomes.specs.{Accounts.Account, declared.outcome.OpResult.{OpResult, TheVariants.{Count, Errno}}}
-use Rattle.exec_outcomes.specs.declared.outcome.Kind.TheVariants as kind
-use Rattle.exec_request.specs.{Kept.Kept, Requests.{asked_of, output_of}, States.Ended, Syncing.write_kind, Ways.asked_by, declared.{way.Way.{Way, TheVariants.{Buffered, Hinted, Direct, Switched}}, request.Request.{Request, TheVariants.{Send, Recv, ReadAt, WriteAt, Sync, Connect, Poll}}, window.{Opcode.Opcode, Window.Window}, write_at.WriteAtState.{WriteAtState, TheVariants.{Writing, WritingSync, WritingBeforeSync, Syncing}}}}
-use Rattle.exec_request.specs.declared.window.Opcode.TheVariants as opcode
+use Rattle.exec_outcomes.specs.{Accounts.Account, declared.outcome.{Kind.Kind as kind, OpResult.{OpResult, TheVariants.{Count, Errno}}}}
+use Rattle.exec_request.specs.{Kept.Kept, Requests.{asked_of, output_of}, States.Ended, Syncing.write_kind, Ways.asked_by, declared.{way.Way.Way, request.Request.{Request, TheVariants.{Send, Recv, ReadAt, WriteAt, Sync, Connect, Poll}}, window.{Opcode.{Opcode, Opcode as opcode}, Window.Window}, write_at.WriteAtState.WriteAtState}}
 use Rattle.exec_ring.specs.{Landings.{MovesBy, MovesBytes, Moves}, declared.{completion.Submission.Submission, landing.Unlawful.Unlawful, store.Store.Store}}
 use Rattle.exec_waiters.specs.{States.{is_sync, suits}, Events.{is_of_sync, fits}, declared.observer.Observer.Observer}
 
 no_receive : (exact : Bool) → is_sync (cond exact kind.Fill kind.Recv) ≡ false
-no_receive true = refl
-no_receive false = refl
+no_receive = grind arith
 
 no_read : (way : Way) (n : ℕ) → is_sync (asked_by way n).kind ≡ false
-no_read Buffered n = refl
-no_read Hinted n = refl
-no_read (Direct skip len) n = refl
-no_read (Switched skip len) n = refl
+no_read = grind arith
 
 no_write : (state : WriteAtState) → is_sync (write_kind state) ≡ false
-no_write Writing = refl
-no_write WritingSync = refl
-no_write WritingBeforeSync = refl
-no_write Syncing = refl
+no_write = grind arith
 
 -- the output of a sync is one of a sync, and no other is
 same_sync : (r : Request) (ended : Ended) (account : Option Account) → is_of_sync (output_of r ended account) ≡ is_sync (asked_of r).kind

@@ -1,4 +1,3 @@
 pub mod Changes
-pub mod Finishing
 pub mod Fits
 pub mod Over

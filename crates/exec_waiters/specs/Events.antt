@@ -3,10 +3,8 @@ use Rattle.std.specs.Prelude.{◌≡◌, ℕ, Bool, true, false, not, ◌<◌, �
 use Rattle.exec_base.specs.{Slab.{Slab, value_at, written, removed, HasRoom}, declared.{slab.{InsertError.{InsertError, TheVariants.{Full, NoMemory}}, Id.Id}, error.Error.{Error, TheVariants.Closed}, task_no.TaskNo.TaskNo}}
 use Rattle.exec_outcomes.specs.{Accounts.Account, Lawful.{is_lawful, window_of}, Outcomes.{HasCome, is_unsupported}, declared.outcome.{Judged.Judged, OpResult.OpResult, Outcome.Outcome}}
 use Rattle.exec_request.specs.{Hints.{AsksOn, has_hint, without_hint}, Judging.{Judges, judged_as}, Kept.kept_of, Requests.{asked_of, cursor_of, hinted_of, goes_on_alone, window_by, output_of, retired_of, outcome_if_granted, record_after}, States.{Ended, as_answer, asks_cancel}, Windows.most_of, declared.{output.RequestOutput.RequestOutput, request.Request.Request, results.WaiterState.{WaiterState, TheVariants.{Active, CancelRequested}}}}
-use Rattle.exec_request.specs.declared.output.RequestOutput.TheVariants as output
 use Rattle.exec_ring.specs.{Landings.Moves, declared.{completion.Submission.Submission, store.Store.Store}}
 use Rattle.exec_time.specs.declared.timers.Observation.{Observation}
-use Rattle.exec_time.specs.declared.timers.Observation.TheVariants as observation
 use Rattle.exec_waiters.specs.{Ids.user_data_of, Told.{Told, Tells, nothing_told, tasks_of}, States.{is_local, is_held_by, is_detached, is_held_at, is_full, tick_in, IsUsedUp}, declared.{deferred.Deferred.Deferred, observer.Observer.{Observer, TheVariants.{Local, Forwarded, DetachedSync, Orphaned}}, completed.CompletionOutcome.{CompletionOutcome, TheVariants.{Requeue, Complete}}, waiter.{Waiter.Waiter, Refused.Refused, Entry.{Entry, TheVariants.{Pending, Ready}}}}}
 
 abbrev pub wakes_this : TaskNo → Option TaskNo → Bool
@@ -14,22 +12,17 @@ wakes_this task None = false
 wakes_this task (Some current) = current.0 == task.0
 
 abbrev pub ending_of : RequestOutput → Ended
-ending_of (output.Send ended) = ended
-ending_of (output.Recv received) = Ok tt
-ending_of (output.ReadAt read) = Ok tt
-ending_of (output.WriteAt ended) = ended
-ending_of (output.Sync ended) = ended
-ending_of (output.Connect ended) = ended
-ending_of (output.Poll ended) = ended
+ending_of (RequestOutput.Send ended) = ended
+ending_of (RequestOutput.Recv received) = Ok tt
+ending_of (RequestOutput.ReadAt read) = Ok tt
+ending_of (RequestOutput.WriteAt ended) = ended
+ending_of (RequestOutput.Sync ended) = ended
+ending_of (RequestOutput.Connect ended) = ended
+ending_of (RequestOutput.Poll ended) = ended
 
 abbrev pub is_of_sync : RequestOutput → Bool
-is_of_sync (output.Send ended) = false
-is_of_sync (output.Recv received) = false
-is_of_sync (output.ReadAt read) = false
-is_of_sync (output.WriteAt ended) = false
-is_of_sync (output.Sync ended) = true
-is_of_sync (output.Connect ended) = false
-is_of_sync (output.Poll ended) = false
+is_of_sync (RequestOutput.Sync ended) = true
+is_of_sync _ = false
 
 -- COMPLETION: the kernel has no operation of the request any more. The result was judged with all before it.
 abbrev pub outcome_by : Id → Option Ended → CompletionOutcome
@@ -54,9 +47,8 @@ module _ {S F : Type 0} where
 
   -- the requests, of which that with this id becomes what a function makes of it, where it isn't over
   abbrev pub changed_from : Slab (Entry S F) → Id → (Waiter S F → Waiter S F) → Option (Entry S F) → Slab (Entry S F)
-  changed_from s id change None = s
   changed_from s id change (Some (Pending w)) = written s id (Pending (change w))
-  changed_from s id change (Some (Ready told)) = s
+  changed_from s id change _ = s
 
   abbrev pub changed : Slab (Entry S F) → Id → (Waiter S F → Waiter S F) → Slab (Entry S F)
   changed s id change = changed_from s id change (value_at s id)
@@ -84,9 +76,7 @@ module _ {S F : Type 0} where
   -- the task that would be woken
   abbrev pub waker_in : Observer S F → Option TaskNo
   waker_in (Local waker) = waker
-  waker_in (Forwarded sender) = None
-  waker_in (DetachedSync sender) = None
-  waker_in Orphaned = None
+  waker_in _ = None
 
   abbrev pub waker_of : Option (Waiter S F) → Option TaskNo
   waker_of None = None
@@ -94,18 +84,17 @@ module _ {S F : Type 0} where
 
   -- what a task of the worker finds: the output, or that it will be woken, or that another or none would be
   abbrev pub seen_in : TaskNo → Entry S F → Observation RequestOutput
-  seen_in task (Ready told) = observation.Ready told
-  seen_in task (Pending w) = if wakes_this task (waker_in w.observer) then observation.Pending else observation.Refresh
+  seen_in task (Ready told) = Observation.Ready told
+  seen_in task (Pending w) = if wakes_this task (waker_in w.observer) then Observation.Pending else Observation.Refresh
 
   abbrev pub seen_by : TaskNo → Option (Entry S F) → Observation RequestOutput
-  seen_by task None = observation.Refresh
+  seen_by task None = Observation.Refresh
   seen_by task (Some entry) = seen_in task entry
 
   -- an output is gone once it was taken
   abbrev pub taken_from : Slab (Entry S F) → Id → Option (Entry S F) → Slab (Entry S F)
-  taken_from s id None = s
-  taken_from s id (Some (Pending w)) = s
   taken_from s id (Some (Ready told)) = removed s id
+  taken_from s id _ = s
 
   abbrev pub taken : Slab (Entry S F) → Id → Slab (Entry S F)
   taken s id = taken_from s id (value_at s id)
@@ -147,10 +136,8 @@ module _ {S F : Type 0} where
   orphaned s id = orphaned_from s id (value_at s id)
 
   abbrev pub told_to : Id → Observer S F → Told S F
-  told_to id (Local waker) = nothing_told
   told_to id (Forwarded sender) = answered id sender (Err Closed)
-  told_to id (DetachedSync sender) = nothing_told
-  told_to id Orphaned = nothing_told
+  told_to id _ = nothing_told
 
   abbrev pub told_by_orphan : Id → Option (Entry S F) → Told S F
   told_by_orphan id None = nothing_told
@@ -159,15 +146,13 @@ module _ {S F : Type 0} where
 
   -- what nobody waits for is cancelled, but for writes and syncs
   abbrev pub asks_cancel_by_orphan : Option (Entry S F) → Bool
-  asks_cancel_by_orphan None = false
   asks_cancel_by_orphan (Some (Pending w)) = is_held_by w.observer && not (goes_on_alone w.request)
-  asks_cancel_by_orphan (Some (Ready told)) = false
+  asks_cancel_by_orphan _ = false
 
   -- CLOSE: one request after another is orphaned, and the task that waits for it is woken besides
   abbrev pub waker_at : Option (Entry S F) → Option TaskNo
-  waker_at None = None
   waker_at (Some (Pending w)) = waker_in w.observer
-  waker_at (Some (Ready told)) = None
+  waker_at _ = None
 
   -- the request in the first slot that has one which someone can let go
   pub record IsFirstHeld (s : Slab (Entry S F)) (id : Id) : Type 0 where
@@ -191,9 +176,7 @@ module _ {S F : Type 0} where
   -- go; then its slot is free. What it owned is retired in any case.
   abbrev pub finished_for : Slab (Entry S F) → Id → RequestOutput → Observer S F → Slab (Entry S F)
   finished_for s id told (Local waker) = written s id (Ready told)
-  finished_for s id told (Forwarded sender) = removed s id
-  finished_for s id told (DetachedSync sender) = removed s id
-  finished_for s id told Orphaned = removed s id
+  finished_for s id told _ = removed s id
 
   -- an outcome alone is sent only of a sync
   abbrev pub fits : RequestOutput → Observer S F → Bool

@@ -1,6 +1,6 @@
 -- How the requests of a worker lie in memory. No public clause cites this module.
 use Rattle.std.specs.Prelude.{◌≡◌, ℕ, Bool, true, false, not, ◌&&◌, ◌<◌, ◌≤◌, length, All}
-use Rattle.exec_base.specs.{Slab.{Slab, value_at}, SlabLayout.{AreVacant, ListsAll}, declared.slab.{Id.Id, Slot.{Slot, TheVariants.{Live, Vacant, Retired}}}}
+use Rattle.exec_base.specs.{Slab.{Slab, value_at}, SlabLayout.{AreVacant, ListsAll}, declared.slab.{Id.Id, Slot.{Slot, TheVariants.Live}}}
 use Rattle.exec_waiters.specs.{States.{suits, needs_permit, pending_count, flying_count, is_held_at}, declared.waiter.{Waiter.Waiter, Entry.{Entry, TheVariants.{Pending, Ready}}}}
 
 module _ {S F : Type 0} where
@@ -14,8 +14,7 @@ module _ {S F : Type 0} where
 
   abbrev pub is_sound_slot : Slot (Entry S F) → Bool
   is_sound_slot (Live generation entry) = is_sound_entry entry
-  is_sound_slot (Vacant generation) = true
-  is_sound_slot Retired = true
+  is_sound_slot _ = true
 
   -- no slot below this one has a request that someone can let go
   pub record NoneHeldBelow (s : Slab (Entry S F)) (index : ℕ) : Type 0 where

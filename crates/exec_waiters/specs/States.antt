@@ -5,11 +5,10 @@
 -- Staged, Flying and Landed are `in_flight`, Gated is durable without its permit, Queued is what is neither, and
 -- Resolved is an entry with an output or one that is gone.
 use Rattle.std.specs.Prelude.{◌≡◌, ℕ, Bool, All, true, false, not, ◌%◌, ◌==◌, ◌&&◌, ◌||◌, length, count_by, nat_le, Option, Some, None, if◌then◌else◌}
-use Rattle.exec_base.specs.{Slab.{Slab, slot_at, value_at, next_index, is_vacant}, declared.slab.{Id.Id, Slot.{Slot, TheVariants.{Live, Vacant, Retired}}}}
+use Rattle.exec_base.specs.{Slab.{Slab, slot_at, value_at, next_index, is_vacant}, declared.slab.{Id.Id, Slot.{Slot, TheVariants.Live}}}
 use Rattle.exec_outcomes.specs.{Accounts.is_durable, declared.outcome.Kind.Kind}
-use Rattle.exec_outcomes.specs.declared.outcome.Kind.TheVariants as kind
 use Rattle.exec_request.specs.{declared.{output.RequestOutput.RequestOutput, request.Request.{Request, TheVariants.{ReadAt, WriteAt, Sync}}, results.WaiterState.{WaiterState, TheVariants.{Active, CancelRequested}}}, Requests.{asked_of, deadline_of, gate_of}, States.asks_cancel}
-use Rattle.exec_waiters.specs.{Ids.{index_in, generation_in}, declared.{observer.Observer.{Observer, TheVariants.{Local, Forwarded, DetachedSync, Orphaned}}, waiter.{Waiter.Waiter, Refused.Refused, Entry.{Entry, TheVariants.{Pending, Ready}}}, waiter_id.WaiterId.WaiterId}}
+use Rattle.exec_waiters.specs.{Ids.{index_in, generation_in}, declared.{observer.Observer.{Observer, TheVariants.{Local, Forwarded, DetachedSync}}, waiter.{Waiter.Waiter, Entry.{Entry, TheVariants.{Pending, Ready}}}, waiter_id.WaiterId.WaiterId}}
 
 -- the tick of the wheel that is to be removed with it
 abbrev pub tick_in : WaiterState → Option ℕ
@@ -27,7 +26,7 @@ takes_tick CancelRequested = false
 
 -- a sync, of which alone an outcome can be sent without its output
 abbrev pub is_sync : Kind → Bool
-is_sync kind.Sync = true
+is_sync Kind.Sync = true
 is_sync _ = false
 
 -- the open whose record its calls are lent
@@ -81,22 +80,17 @@ module _ {S F : Type 0} where
   -- a task of the worker waits for it
   abbrev pub is_local : Observer S F → Bool
   is_local (Local waker) = true
-  is_local (Forwarded sender) = false
-  is_local (DetachedSync sender) = false
-  is_local Orphaned = false
+  is_local _ = false
 
   -- someone waits who can let it go
   abbrev pub is_held_by : Observer S F → Bool
   is_held_by (Local waker) = true
   is_held_by (Forwarded sender) = true
-  is_held_by (DetachedSync sender) = false
-  is_held_by Orphaned = false
+  is_held_by _ = false
 
   abbrev pub is_detached : Observer S F → Bool
-  is_detached (Local waker) = false
-  is_detached (Forwarded sender) = false
   is_detached (DetachedSync sender) = true
-  is_detached Orphaned = false
+  is_detached _ = false
 
   abbrev pub is_observed_here : Option (Waiter S F) → Bool
   is_observed_here None = false
@@ -144,13 +138,11 @@ module _ {S F : Type 0} where
 
   abbrev pub counts_pending : Slot (Entry S F) → Bool
   counts_pending (Live generation entry) = is_asking entry
-  counts_pending (Vacant generation) = false
-  counts_pending Retired = false
+  counts_pending _ = false
 
   abbrev pub counts_flying : Slot (Entry S F) → Bool
   counts_flying (Live generation entry) = flies entry
-  counts_flying (Vacant generation) = false
-  counts_flying Retired = false
+  counts_flying _ = false
 
   -- how many requests are not over, and of how many the kernel may have an operation
   abbrev pub pending_count : Slab (Entry S F) → ℕ
@@ -165,8 +157,7 @@ module _ {S F : Type 0} where
       if flies entry && ((generation % 4294967296) == generation_in user_data)
       then Some (record { index = index_in user_data; generation = generation })
       else None
-  named_in user_data (Vacant generation) = None
-  named_in user_data Retired = None
+  named_in user_data _ = None
 
   abbrev pub named : Slab (Entry S F) → ℕ → Option Id
   named s user_data = named_in user_data (slot_at s (index_in user_data))
@@ -197,7 +188,3 @@ module _ {S F : Type 0} where
   abbrev pub output_at : Option (Entry S F) → Option RequestOutput
   output_at None = None
   output_at (Some entry) = output_in entry
-
-  abbrev pub asked_for : Entry S F → Option (Refused S F)
-  asked_for (Pending w) = Some (record { request = w.request; observer = w.observer })
-  asked_for (Ready output) = None

@@ -1,8 +1,5 @@
 //! What comes of a completion, and of taking an observer away.
 
-ghost use Rattle.std.specs.Prelude.{◌≡◌};
-ghost use Rattle.exec_waiters.specs.Events.{outcome_by};
-
 use crate::waiter_id::WaiterId;
 use exec_base::error::Error;
 
@@ -13,18 +10,6 @@ pub enum CompletionOutcome {
     Requeue(WaiterId),
     /// The request ends so, which is to be told to `Waiters::finish`.
     Complete(WaiterId, Result<(), Error>),
-}
-
-impl CompletionOutcome {
-    // What comes of a completion after which the request ends so, or goes on.
-    pub(crate) fn of(id: WaiterId, answer: Option<Result<(), Error>>) -> Self
-        ensures { result ≡ outcome_by id.0 answer }
-    {
-        match answer {
-            Some(ended) => CompletionOutcome::Complete(id, ended),
-            None => CompletionOutcome::Requeue(id),
-        }
-    }
 }
 
 /// A request whose observer `Waiters::close` took away.

@@ -113,15 +113,10 @@ impl<S: Drop, F: Drop> Deferred<S, F> {
         requires room { HasPlaces self.old 1 }
         ensures { Tells self.old self.new (told_to id.0 observer) }
     {
-        match observer {
-            Observer::Forwarded(sender) => self.results.push_back_reserved(Answer {
-                id,
-                sender,
-                result: Err(Error::Closed),
-            }),
-            Observer::Local(_unwoken) => {}
-            Observer::DetachedSync(_kept) => {}
-            Observer::Orphaned => {}
+        if let Observer::Forwarded(sender) = observer {
+            let result = Err(Error::Closed);
+            let answer = Answer { id, sender, result };
+            self.results.push_back_reserved(answer);
         }
     }
 
@@ -134,11 +129,11 @@ impl<S: Drop, F: Drop> Deferred<S, F> {
         ensures { Tells self.old self.new (output_told id.0 output observer) }
     {
         match observer {
-            Observer::Forwarded(sender) => self.results.push_back_reserved(Answer {
-                id,
-                sender,
-                result: Ok(output),
-            }),
+            Observer::Forwarded(sender) => {
+                let result = Ok(output);
+                let answer = Answer { id, sender, result };
+                self.results.push_back_reserved(answer);
+            }
             Observer::DetachedSync(sender) => match output {
                 RequestOutput::Sync(result) => self
                     .notes

@@ -1,11 +1,8 @@
 //! Worked examples of what calls do to the requests of a worker, proved by computation.
 
 ghost use Rattle.std.specs.Prelude.{◌≡◌, ◌≢◌, [], ◌∷◌, Some, None, Ok, Err, true, false};
-ghost use Rattle.exec_base.specs.Slab.{value_at, next_id};
-ghost use Rattle.exec_base.specs.declared.error.Error.TheVariants as error;
-ghost use Rattle.exec_request.specs.declared.output.RequestOutput.TheVariants as output;
-ghost use Rattle.exec_request.specs.declared.output.RetiredResources.TheVariants as retired;
-ghost use Rattle.exec_request.specs.declared.results.WaiterState.TheVariants as stands;
+ghost use Rattle.exec_base.specs.{Slab.{value_at, next_id}, declared.error.Error.Error as error};
+ghost use Rattle.exec_request.specs.declared.{output.{RequestOutput.RequestOutput as output, RetiredResources.RetiredResources as retired}, results.WaiterState.WaiterState as stands};
 ghost use Rattle.exec_time.specs.declared.timers.Observation.TheVariants as observation;
 ghost use Rattle.exec_waiters.specs.{Ids.{user_data_of, index_in, generation_in}, Told.nothing_told, States.{suits, is_held_by, may_stage, named as named_by}, Events.{newcomer, with_permit, with_state, may_cancel, seen_by, seen_in, told_by_forward, told_by_orphan, told_by_close, told_by_finish, asks_cancel_by_orphan, finished, forwarded, orphaned, taken}, Examples.{task, named, poll, sync, here, elsewhere, detached, nobody, awaited, flying, alone, done}, declared.waiter.Entry.TheVariants.{Pending, Ready}};
 

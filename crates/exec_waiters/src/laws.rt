@@ -16,6 +16,7 @@ pub fn a_recycled_slot_takes_no_old_completion<S, F>()
 
 /// A request is over once it was finished: from then on its id names no request, and no insert gives it again. No other
 /// entry changes.
+#[tactic(auto, using(crate::proofs::Over::others))]
 pub fn a_request_is_resolved_at_most_once<S, F>()
     ensures over { (s : Slab (Entry S F)) (id : Id) (w : Waiter S F) (ended : Ended) (account : Option Account) → waiter_at s id ≡ Some w → waiter_at (finished s id w ended account) id ≡ None }
     ensures past { (s : Slab (Entry S F)) (id : Id) (w : Waiter S F) (ended : Ended) (account : Option Account) → id.generation < 2 ^ 64 → waiter_at s id ≡ Some w → IsPast (finished s id w ended account) id }

@@ -1,7 +1,7 @@
 //! One request with its observer and its flags, and what stands under an id.
 
-ghost use Rattle.std.specs.Prelude.{◌≡◌, Some, IsSome, true};
-ghost use Rattle.exec_waiters.specs.{States.{tick_in, takes_tick, file_of, needs_permit, waiter_at, waiter_in}, Events.admitted, Lends.{lends_waiter, lends_waiter_at}};
+ghost use Rattle.std.specs.Prelude.{◌≡◌, Some, IsSome};
+ghost use Rattle.exec_waiters.specs.{States.{tick_in, takes_tick, file_of, needs_permit, waiter_at}, Events.admitted, Lends.lends_waiter_at};
 ghost use Rattle.std.specs.Borrow.{sem};
 
 use crate::observer::Observer;
@@ -73,10 +73,7 @@ impl<S: Drop, F: Drop> Waiter<S, F> {
     pub(crate) fn awaits_tick(&self) -> bool
         ensures { result ≡ takes_tick self.now.state }
     {
-        match self.state {
-            WaiterState::Active { target_tick } => target_tick.is_none(),
-            WaiterState::CancelRequested => false,
-        }
+        matches!(self.state, WaiterState::Active { target_tick: None })
     }
 
     /// The open whose record its calls are lent.
@@ -99,43 +96,6 @@ impl<S: Drop, F: Drop> Waiter<S, F> {
     }
 }
 
-impl<S, F> Entry<S, F> {
-    // The request, for writing.
-    fn waiter_mut(&mut self) -> &mut Waiter<S, F>
-        requires { IsSome (waiter_in self.old) }
-        ensures* lends { sem 𝓛 (lends_waiter S.row F.row self.entry result) }
-        ensures value { waiter_in self.old ≡ Some result.now }
-    {
-        match self {
-            Entry::Pending(waiter) => waiter,
-            Entry::Ready(_) => unreachable!(),
-        }
-    }
-}
-
-impl<S: Drop, F: Drop> Entry<S, F> {
-    ghost use Rattle.exec_waiters.specs.States.{is_asking, asked_for};
-
-    /// What was asked for, of an entry that was just made.
-    pub(crate) fn asked(self) -> Refused<S, F>
-        requires { is_asking self ≡ true }
-        ensures { Some result ≡ asked_for self }
-    {
-        match self {
-            Entry::Pending(
-                Waiter {
-                    state: _,
-                    in_flight: _,
-                    observer,
-                    request,
-                    permit: _,
-                },
-            ) => Refused { request, observer },
-            Entry::Ready(_) => unreachable!(),
-        }
-    }
-}
-
 /// The request with this id, for writing. The caller must have one that isn't over.
 pub(crate) fn waiter_mut<S, F>(entries: &mut Slab<Entry<S, F>>, id: WaiterId) -> &mut Waiter<S, F>
     requires { IsSome (waiter_at entries.old id.0) }
@@ -143,7 +103,7 @@ pub(crate) fn waiter_mut<S, F>(entries: &mut Slab<Entry<S, F>>, id: WaiterId) ->
     ensures value { waiter_at entries.old id.0 ≡ Some result.now }
 {
     match entries.get_mut(id.0) {
-        Some(entry) => entry.waiter_mut(),
-        None => unreachable!(),
+        Some(Entry::Pending(waiter)) => waiter,
+        _ => unreachable!(),
     }
 }

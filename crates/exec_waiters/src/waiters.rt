@@ -19,12 +19,10 @@
 //! `specs/Events.antt`. Nothing is woken, sent or let go here: it is put into `Deferred`, in room that the caller has
 //! made. Only `new` and `insert` take memory. Moments are in nanoseconds.
 
-ghost use Rattle.std.specs.Prelude.{◌≡◌, ◌≤◌, ◌==◌, [], Some, IfOk, IfErr, OnOk, OnErr, true, false};
-ghost use Rattle.std.specs.Option.{option_copied};
+ghost use Rattle.std.specs.{Prelude.{◌≡◌, ◌≤◌, ◌==◌, [], Some, IfOk, IfErr, OnOk, OnErr, true, false}, Option.option_copied};
 ghost use Rattle.exec_base.specs.Slab.{next_id, inserted, live_count, IsPast, Updates, TakesId};
 ghost use Rattle.exec_waiters.specs.{States.{waiter_at, suits, pending_count, flying_count, is_full}, Events.{admitted, IsTurnedDown}};
 
-mod landing;
 mod looking;
 mod observing;
 mod operating;
@@ -148,37 +146,20 @@ impl<S: Drop, F: Drop> Waiters<S, F> {
             Some(next) if (next.index as usize) < LAST_INDEX => {}
             _ => return Err(InsertError::Full(refused)),
         }
-        self.enter(alloc, refused)
-    }
-
-    // Puts a request into the slab, which is not full.
-    fn enter(
-        &mut self,
-        alloc: Global,
-        asked: Refused<S, F>,
-    ) -> Result<WaiterId, InsertError<Refused<S, F>>>
-        requires suits { suits asked.request asked.observer ≡ true }
-        requires not_full { is_full self.old ≡ false }
-        ensures id { IfOk result (λ id. next_id self.old ≡ Some id.0) }
-        ensures inserted { OnOk result (self.new ≡ record (inserted self.old (admitted asked.request asked.observer)) { room = self.new.room }) }
-        ensures map { IfOk result (λ id. Updates self.old self.new id.0 (Some (admitted asked.request asked.observer))) }
-        ensures never_before { IfOk result (λ id. IsPast self.old id.0 → ⊥) }
-        ensures never_again { IfOk result (λ id. TakesId self.old self.new id.0) }
-        ensures room { self.old.room ≤ self.new.room }
-        ensures refused { IfErr result (IsTurnedDown self.old asked) }
-        ensures kept { OnErr result (self.new ≡ self.old) }
-    {
-        match self
-            .entries
-            .insert(alloc, Entry::Pending(Waiter::new(asked)))
-        {
+        let entry = Entry::Pending(Waiter::new(refused));
+        match self.entries.insert(alloc, entry) {
             Ok(id) => {
                 self.pending += 1;
                 self.held_from = self.held_from.min(id.index as usize);
                 Ok(WaiterId(id))
             }
-            Err(InsertError::NoMemory(entry)) => Err(InsertError::NoMemory(entry.asked())),
-            Err(InsertError::Full(_)) => unreachable!(),
+            Err(InsertError::NoMemory(Entry::Pending(waiter))) => {
+                Err(InsertError::NoMemory(Refused {
+                    request: waiter.request,
+                    observer: waiter.observer,
+                }))
+            }
+            Err(_) => unreachable!(),
         }
     }
 

@@ -1,6 +1,5 @@
 -- The search count over any calls.
-use Rattle.std.proofs.Common.{◌≡◌, ◌+◌, List, [], ◌∷◌, arith}
-use Rattle.std.proofs.lemmas.Bool.Decides.{nat_tests}
+use Rattle.std.proofs.{Common.{◌≡◌, ◌+◌, List, [], ◌∷◌, arith}, lemmas.Bool.Decides.nat_tests}
 use Rattle.exec_words.specs.IdleRuns.{Change, Tally, Add, after, after_all}
 
 abbrev IsSum : Tally → Type 0

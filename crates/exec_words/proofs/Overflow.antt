@@ -1,6 +1,5 @@
 -- How a full queue is taken apart.
-use Rattle.std.proofs.Common.{◌≡◌, ℕ, ◌-◌, ◌^◌, ◌<◌, List, [], ◌++◌, length, take, drop, false, arith}
-use Rattle.std.proofs.lemmas.{List.length-drop, List.length-take, Bool.Decides.nat_tests}
+use Rattle.std.proofs.{Common.{◌≡◌, ℕ, ◌-◌, ◌^◌, ◌<◌, List, [], ◌++◌, length, take, drop, false, arith}, lemmas.{List.{length-drop, length-take}, Bool.Decides.nat_tests}}
 use Rattle.exec_words.specs.Head.{is_spent}
 
 -- a queue that isn't spent is below its end

@@ -1,8 +1,6 @@
 -- What any calls on a run queue keep.
-use Rattle.std.proofs.Common.{◌≡◌, ℕ, ◌+◌, ◌/◌, ◌≤◌, ◌&&◌, Bool, true, false, cond, List, [], ◌∷◌, ◌++◌, length, take, drop, refl, inl, inr, sym, ap, subst, ◌∙◌, arith, append_assoc, length-append, count_by}
-use Rattle.std.proofs.lemmas.List.{take-append-drop, append-nil, length-take, length-drop, Sums.sum_by-append}
-use Rattle.exec_words.specs.QueueRuns.{IsWithin, Change, Push, Pop, Claim, Release, Overflow, Restore, History, begun, is_empty, after, after_all}
-use Rattle.exec_words.specs.Queue.{published, overflowed, newest, restored}
+use Rattle.std.proofs.{Common.{◌≡◌, ℕ, ◌+◌, ◌/◌, ◌≤◌, ◌&&◌, Bool, true, false, cond, List, [], ◌∷◌, ◌++◌, length, take, drop, refl, inl, inr, sym, ap, subst, ◌∙◌, arith, append_assoc, length-append, count_by}, lemmas.List.{take-append-drop, append-nil, length-take, length-drop, Sums.sum_by-append}}
+use Rattle.exec_words.specs.{QueueRuns.{IsWithin, Change, Push, Pop, Claim, Release, Overflow, Restore, History, begun, is_empty, after, after_all}, Queue.{published, overflowed, newest, restored}}
 
 first : (a b : Bool) → a && b ≡ true → a ≡ true
 first true b is = refl

@@ -1,7 +1,6 @@
 -- What a contract sees of an inbox, and what its calls do to it and to the wake word of its worker.
-use Rattle.std.specs.Prelude.{◌≡◌, ℕ, ◌-◌, ◌^◌, ◌<◌, Bool, true, false, not, ◌&&◌, List, [], ◌∷◌, ◌++◌, length, if◌then◌else◌}
-use Rattle.std.specs.List.{list_any}
-use Rattle.exec_words.specs.{declared.inbox.Message.Message, declared.word.PureWord.PureWord, Reserved.Reserved, Word.asks_signal, Word.next_batch}
+use Rattle.std.specs.{Prelude.{◌≡◌, ℕ, ◌-◌, ◌^◌, ◌<◌, Bool, true, false, not, ◌&&◌, List, [], ◌∷◌, ◌++◌, length, if◌then◌else◌}, List.list_any}
+use Rattle.exec_words.specs.{declared.{inbox.Message.Message, word.PureWord.PureWord}, Reserved.Reserved, Word.{asks_signal, next_batch}}
 
 -- the messages that aren't taken, the oldest first; for how many there are places; whether it takes no more; and how
 -- many batches were published and taken, modulo 2^29

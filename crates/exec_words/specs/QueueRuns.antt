@@ -1,7 +1,6 @@
 -- Calls on a run queue that change it, one after another, by anyone; and what went in and came out.
 use Rattle.std.specs.Prelude.{◌≡◌, ◌⊎◌, Bool, true, false, ℕ, ◌/◌, ◌==◌, nat_lt, nat_le, ◌&&◌, not, List, [], ◌∷◌, ◌++◌, length, take, if◌then◌else◌}
-use Rattle.exec_words.specs.Head.{is_spent}
-use Rattle.exec_words.specs.Queue.{Queue, tail_of, room_of, popped, claimed, released, published, overflowed, newest, restored}
+use Rattle.exec_words.specs.{Head.is_spent, Queue.{Queue, tail_of, room_of, popped, claimed, released, published, overflowed, newest, restored}}
 
 -- a call: a thief's claim names how many values it saw
 pub data Change (T : Type 0) : Type 0 where

@@ -1,8 +1,7 @@
 //! Worked examples of the definitions, proved by computation: what holds, and what doesn't.
 
 ghost use Rattle.std.specs.Prelude.{◌≡◌, ◌≢◌, ◌-◌, ◌^◌, true, false, [], ◌∷◌, Some, None};
-ghost use Rattle.exec_words.specs.{declared.head.Fit.Fit, declared.inbox.Message.Message, declared.word.WaitTarget.WaitTarget, Generator.stirred, Global.share_of, Head.fit_at, Head.room_at, Head.is_stealable_at, Idle.lowest_of, Inbox.sent, Inbox.batch_taken, Inbox.has_mail, Queue.claimed, Queue.popped, Queue.released, Queue.overflowed, Queue.newest, Queue.restored, QueueRuns.IsWithin, Word.asks_signal, Word.is_idle_at, Word.next_batch};
-ghost use Rattle.exec_words.specs.Examples.{numbers, head, queue_at, five, popped_past, full, word, no_mail, two_letters, a_run, searches};
+ghost use Rattle.exec_words.specs.{declared.{head.Fit.Fit, inbox.Message.Message, word.WaitTarget.WaitTarget}, Generator.stirred, Global.share_of, Head.{fit_at, room_at, is_stealable_at}, Idle.lowest_of, Inbox.{sent, batch_taken, has_mail}, Queue.{claimed, popped, released, overflowed, newest, restored}, QueueRuns.IsWithin, Word.{asks_signal, is_idle_at, next_batch}, Examples.{numbers, head, queue_at, five, popped_past, full, word, no_mail, two_letters, a_run, searches}};
 
 /// Five values, of which a thief claims two. The owner pops two past the claim, and the release
 /// frees all four places. A full queue flows over: the oldest half stays, under new counts.

@@ -4,8 +4,7 @@
 //! sent or woken is never lost for want of memory. What a contract sees is in `specs/Reserved.antt`: the values, the
 //! oldest first, and how many places there are for values in all.
 
-ghost use Rattle.std.specs.Prelude.{◌≡◌, ◌+◌, ◌-◌, ◌<◌, ◌≤◌, ◌==◌, [], ◌∷◌, ◌++◌, length, take, drop, max, slice_get, IfOk, OnOk, OnErr};
-ghost use Rattle.std.specs.VecDeque.{deque_capacity};
+ghost use Rattle.std.specs.{Prelude.{◌≡◌, ◌+◌, ◌-◌, ◌<◌, ◌≤◌, ◌==◌, [], ◌∷◌, ◌++◌, length, take, drop, max, slice_get, IfOk, OnOk, OnErr}, VecDeque.deque_capacity};
 
 use std::alloc::{AllocError, Global};
 use std::collections::VecDeque;

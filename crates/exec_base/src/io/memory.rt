@@ -1,7 +1,5 @@
-ghost use Rattle.std.specs.Prelude.{◌≡◌, ◌+◌, ◌-◌, ◌<◌, ◌≤◌, ◌⊎◌, min, [], Some, Contains, length, take, drop, vec_len, vec_capacity, IsErr, IfOk, OnOk, OnErr};
-ghost use Rattle.std.specs.Io.KnownBytes.{append_known};
-ghost use Rattle.exec_base.specs.Io.{Takes, CountsFault, one_more};
-ghost use Rattle.exec_base.specs.Plan.{IsPlanned};
+ghost use Rattle.std.specs.{Prelude.{◌≡◌, ◌+◌, ◌-◌, ◌<◌, ◌≤◌, ◌⊎◌, min, [], Some, Contains, length, take, drop, vec_len, vec_capacity, IsErr, IfOk, OnOk, OnErr}, Io.KnownBytes.append_known};
+ghost use Rattle.exec_base.specs.{Io.{Takes, CountsFault, one_more}, Plan.IsPlanned};
 
 use super::{Failed, Input, Output, copy_front, raised};
 use std::alloc::Global;

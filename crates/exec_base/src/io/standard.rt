@@ -1,5 +1,4 @@
-ghost use Rattle.std.specs.Prelude.{◌≡◌, ◌+◌, ◌<◌, ◌≤◌, None, length, take, IfOk};
-ghost use Rattle.std.specs.Io.KnownBytes.{Keeps, ReadConsumes, WriteAppends};
+ghost use Rattle.std.specs.{Prelude.{◌≡◌, ◌+◌, ◌<◌, ◌≤◌, None, length, take, IfOk}, Io.KnownBytes.{Keeps, ReadConsumes, WriteAppends}};
 ghost use Rattle.exec_base.specs.Io.{CountsFault};
 
 use super::{Failed, Input, Output, raised};

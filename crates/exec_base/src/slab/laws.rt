@@ -1,11 +1,7 @@
 //! Laws and worked examples of slabs.
 
-ghost use Rattle.std.specs.Prelude.{List, ◌<◌, ◌≡◌, ◌≢◌, ◌↔◌, ◌^◌, ◌-◌, ℕ, None, Some, IsSome, length};
-ghost use Rattle.exec_base.specs.declared.slab.Id.{Id};
-ghost use Rattle.std.specs.declared.cmp.Ordering.TheVariants.{Less, Equal, Greater};
-ghost use Rattle.exec_base.specs.Slab.{Slab, IsBefore, value_at, next_id, inserted, written, live_count, IsPast, Updates};
-ghost use Rattle.exec_base.specs.SlabRuns.{Change, NoneTwice, empty_from, ids_given};
-ghost use Rattle.exec_base.specs.SlabExamples.{named, three, one_left, refilled, last_but_one, retired};
+ghost use Rattle.std.specs.{Prelude.{List, ◌<◌, ◌≡◌, ◌≢◌, ◌↔◌, ◌^◌, ◌-◌, ℕ, None, Some, IsSome, length}, declared.cmp.Ordering.TheVariants.{Less, Equal, Greater}};
+ghost use Rattle.exec_base.specs.{declared.slab.Id.Id, Slab.{Slab, IsBefore, value_at, next_id, inserted, written, live_count, IsPast, Updates}, SlabRuns.{Change, NoneTwice, empty_from, ids_given}, SlabExamples.{named, three, one_left, refilled, last_but_one, retired}};
 
 use super::Id;
 

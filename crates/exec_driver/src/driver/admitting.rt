@@ -160,12 +160,8 @@ impl<R: Ring + Drop, S: Drop, F: Drop> Driver<R, S, F> {
         ensures spare { HasFewSpare (seen self.new) }
         ensures store { Same store.old store.new }
     {
-        let wanted = self
-            .waiters
-            .len()
-            .saturating_mul(2)
-            .saturating_add(self.cancels_under_way)
-            .saturating_add(1);
+        let others = self.cancels_under_way.saturating_add(1);
+        let wanted = self.waiters.len().saturating_mul(2).saturating_add(others);
         let spare = self.places.saturating_sub(wanted);
         give_up(&mut self.ring, spare, store);
         self.places -= spare;
@@ -284,8 +280,5 @@ fn plainly_written(request: &Request) -> Option<u32>
 fn is_late(deadline: Option<u64>, now: u64) -> bool
     ensures { result ≡ is_late deadline now }
 {
-    match deadline {
-        Some(deadline) => deadline <= now,
-        None => false,
-    }
+    deadline.is_some_and(|deadline| deadline <= now)
 }

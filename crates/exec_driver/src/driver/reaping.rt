@@ -6,7 +6,7 @@ ghost use Rattle.exec_outcomes.specs.{Accounts.is_durable, declared.outcome.Kind
 ghost use Rattle.exec_request.specs.States.{told_by};
 ghost use Rattle.exec_ring.specs.{Completions.result_in, Kernels.next_completion};
 ghost use Rattle.exec_waiters.specs.Told.{HasPlaces};
-ghost use Rattle.exec_driver.specs.{Driving.{seen, request_at}, Punctual.IsPunctual, Steps.{swept, under_way_after, armed_after, is_control, taken_out, completed_in, with_landings, Reaps, ReapsNext, is_next_control, after_next_control}};
+ghost use Rattle.exec_driver.specs.{Driving.{seen, request_at}, Punctual.IsPunctual, Steps.{swept, is_control, taken_out, completed_in, with_landings, Reaps, ReapsNext, is_next_control, after_next_control}};
 
 use super::Driver;
 use exec_base::error::Error;
@@ -74,8 +74,11 @@ impl<R: Ring + Drop, S: Drop, F: Drop> Driver<R, S, F> {
             return false;
         }
         let _same = self.ring.reap();
-        self.cancels_under_way = under_way_after(next, self.cancels_under_way);
-        self.armed = armed_after(next, self.armed);
+        if next.user_data == CANCEL_USER_DATA {
+            self.cancels_under_way = self.cancels_under_way.saturating_sub(1);
+        } else {
+            self.armed = self.armed && next.more;
+        }
         true
     }
 
@@ -148,28 +151,6 @@ fn told(
             None => Ok(()),
         },
         _ => ended,
-    }
-}
-
-/// How many cancels are under way after a completion that is of no operation.
-fn under_way_after(control: Completion, count: usize) -> usize
-    ensures { result ≡ under_way_after control count }
-{
-    if control.user_data == CANCEL_USER_DATA {
-        count.saturating_sub(1)
-    } else {
-        count
-    }
-}
-
-/// Whether the wake poll is out after a completion that is of no operation: a wake may have ended it.
-fn armed_after(control: Completion, armed: bool) -> bool
-    ensures { result ≡ armed_after control armed }
-{
-    if control.user_data == CANCEL_USER_DATA {
-        armed
-    } else {
-        armed && control.more
     }
 }
 

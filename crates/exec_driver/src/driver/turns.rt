@@ -89,10 +89,7 @@ impl<R: Ring + Drop, S: Drop, F: Drop> Driver<R, S, F> {
     pub fn may_sleep(&self, now: u64, deadline: Option<u64>) -> bool
         ensures { result ≡ (is_after now deadline && is_quiet (seen self.now).ring && is_taken (seen self.now)) }
     {
-        let later = match deadline {
-            Some(deadline) => deadline > now,
-            None => true,
-        };
+        let later = deadline.is_none_or(|deadline| deadline > now);
         later && self.ring.is_quiet() && self.ring.room() == self.limit
     }
 
@@ -214,10 +211,8 @@ impl<R: Ring + Drop, S: Drop, F: Drop> Driver<R, S, F> {
         self.sound();
         if let Some(
             Reaped {
-                id: _,
-                given: _,
-                ended: _,
                 permit: Some(file),
+                ..
             },
         ) = reaped
         {
@@ -296,13 +291,7 @@ impl<R: Ring + Drop, S: Drop, F: Drop> Driver<R, S, F> {
         self.sound();
         let granted = self.grant(worker, file, opens, deferred);
         self.sound();
-        if let Some(
-            Granted {
-                id: _,
-                ended: Some(_),
-            },
-        ) = granted
-        {
+        if let Some(Granted { ended: Some(_), .. }) = granted {
             pass_on(file, opens, workers);
         }
     }

@@ -19,6 +19,7 @@ pub struct Sighted<'a> {
     pub stopped: bool,
 }
 
+#[tactic(auto, using(crate::proofs::Sights::account_there))]
 impl<'a> Around for Sighted<'a> {
     ghost use Rattle.std.specs.Prelude.{Some};
     ghost use Rattle.exec_parts.specs.Polls.{sight_of};
@@ -29,18 +30,15 @@ impl<'a> Around for Sighted<'a> {
         self.moment
     }
 
-    #[tactic(auto, using(crate::proofs::Sights::account_there))]
     fn failure(&self, file: u32) -> Option<Error> {
         self.opens.account(Some(file))?.failure()
     }
 
-    #[tactic(auto, using(crate::proofs::Sights::account_there))]
     fn is_dirty(&self, file: u32) -> bool {
         let account = self.opens.account(Some(file));
         account.is_some_and(|record| record.is_dirty())
     }
 
-    #[tactic(auto, using(crate::proofs::Sights::account_there))]
     fn begin_sync(&self, file: u32) -> u64 {
         let account = self.opens.account(Some(file));
         account.map_or(0, |record| record.begin_sync())

@@ -5,8 +5,7 @@
 //! of the task itself comes here for that, so none of it takes memory.
 
 ghost use Rattle.std.specs.Prelude.{◌≡◌, [], drop, slice_get, None};
-ghost use Rattle.exec_machine.specs.Tests.{is_empty};
-ghost use Rattle.exec_parts.specs.View.{letters_in};
+ghost use Rattle.exec_parts.specs.{Words.is_empty, View.letters_in};
 
 use crate::parts::held::Held;
 use exec_machine::state::{Letter, MailMessage};
@@ -45,17 +44,13 @@ impl Letters {
         ensures first { result ≡ slice_get (letters_in self.old) 0 }
         ensures left { letters_in self.new ≡ drop 1 (letters_in self.old) }
     {
-        if !self.requests.is_empty() {
+        let (to, message) = if self.requests.is_empty() {
+            let held = self.timer.take()?;
+            (held.worker, MailMessage::CancelTimer(held.number))
+        } else {
             let held = self.requests.remove(0);
-            return Some(Letter {
-                to: held.worker,
-                message: MailMessage::CancelRequest(held.number),
-            });
-        }
-        let held = self.timer.take()?;
-        Some(Letter {
-            to: held.worker,
-            message: MailMessage::CancelTimer(held.number),
-        })
+            (held.worker, MailMessage::CancelRequest(held.number))
+        };
+        Some(Letter { to, message })
     }
 }

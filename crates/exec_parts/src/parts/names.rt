@@ -5,8 +5,7 @@
 //! has ended keeps its number until it is released, in the order of ending, since its slot may be given again before.
 
 ghost use Rattle.std.specs.{Prelude.{◌≡◌, ◌≢◌, ℕ, ◌+◌, ◌-◌, ◌<◌, ◌≤◌, [], true, false, ◌∷◌, ◌++◌, length, drop, slice_get, option_to_list, Some, IfNone, IfOk, OnOk, OnSome}, Vec.vec_capacity, VecDeque.deque_capacity};
-ghost use Rattle.exec_machine.specs.Requests.{joined_if};
-ghost use Rattle.exec_parts.specs.Records.{SameNames, HasNoNames, HasRequestRoom, HasTimerRoom, number_in};
+ghost use Rattle.exec_parts.specs.{Words.joined_if, Records.{SameNames, HasNoNames, HasRequestRoom, HasTimerRoom, number_in}};
 
 use exec_time::timers::TimerId;
 use exec_waiters::waiter_id::WaiterId;
@@ -74,7 +73,10 @@ impl Names {
         ensures longer { length self.old.requests.items ≤ length self.new.requests.items }
         ensures same { self.new ≡ record self.old { requests = self.new.requests; unreleased = self.old.unreleased + 1 } }
     {
-        set_or_push(&mut self.requests, id.0.index as usize, number);
+        match self.requests.get_mut(id.0.index as usize) {
+            Some(named) => *named = number,
+            None => self.requests.push_reserved(number),
+        }
         self.unreleased += 1;
     }
 
@@ -88,7 +90,10 @@ impl Names {
         ensures longer { length self.old.timers.items ≤ length self.new.timers.items }
         ensures same { self.new ≡ record self.old { timers = self.new.timers } }
     {
-        set_or_push(&mut self.timers, id.0.index as usize, number);
+        match self.timers.get_mut(id.0.index as usize) {
+            Some(named) => *named = number,
+            None => self.timers.push_reserved(number),
+        }
     }
 
     /// The number of a request that isn't over, or was so until this step.
@@ -188,21 +193,5 @@ impl Names {
         ensures same { self.new ≡ record self.old { staged = self.new.staged } }
     {
         self.staged.pop()
-    }
-}
-
-/// The list has this at this place, which is at most one past its end.
-fn set_or_push(list: &mut Vec<usize>, at: usize, number: usize)
-    requires at { at ≤ length list.old.items }
-    requires room { length list.old.items < vec_capacity list.old }
-    ensures there { slice_get list.new.items at ≡ Some number }
-    ensures others { (k : ℕ) → k ≢ at → slice_get list.new.items k ≡ slice_get list.old.items k }
-    ensures longer { length list.old.items ≤ length list.new.items }
-    ensures capacity { vec_capacity list.new ≡ vec_capacity list.old }
-{
-    if at < list.len() {
-        list[at] = number;
-    } else {
-        list.push_reserved(number);
     }
 }

@@ -4,9 +4,7 @@
 //! kernel and the clock wake it, and who closes asks whether it has passed the barrier.
 
 ghost use Rattle.std.specs.Prelude.{◌≡◌, ◌+◌, ◌^◌, ◌<◌, map, not, Some, None, IfOk, OnOk, if◌then◌else◌};
-ghost use Rattle.exec_words.specs.Word.{asks_signal};
-ghost use Rattle.exec_machine.specs.Tests.{is_awake, has_ended};
-ghost use Rattle.exec_parts.specs.{Pooled.{chair_latched, chair_raised}, Records.{reached, HasMailRoom, IsFreshSeat, MakesMail}};
+ghost use Rattle.exec_parts.specs.{Words.{asks_signal, has_ended, is_awake}, Pooled.{chair_latched, chair_raised}, Records.{reached, HasMailRoom, IsFreshSeat, MakesMail}};
 
 use crate::parts::mail::{Mail, Post};
 use exec_machine::state::{Rest, WorkerPhase};
@@ -72,8 +70,7 @@ impl Seat {
     /// Signals the worker: the latch goes into its wake word. Answers whether a wait is to be ended: that of its ring,
     /// or that of its word.
     pub fn signal(&mut self) -> Option<WaitTarget>
-        ensures target { result ≡ (if asks_signal self.old.mailbox.waker then Some self.old.mailbox.waker.target
-            else None) }
+        ensures target { result ≡ (if asks_signal self.old.mailbox.waker then Some self.old.mailbox.waker.target else None) }
         ensures latched { self.new ≡ chair_latched self.old }
     {
         let found = self.mailbox.waker.wake();
@@ -88,9 +85,7 @@ impl Seat {
         ensures slept { result ≡ not (is_awake self.old.rest) }
         ensures raised { self.new ≡ chair_raised ring self.old }
     {
-        if ring {
-            self.raised = self.raised.saturating_add(1);
-        }
+        self.raised = self.raised.saturating_add(u64::from(ring));
         let slept = !self.is_awake();
         self.rest = Rest::Awake;
         slept
@@ -120,15 +115,6 @@ impl Seat {
     {
         self.made += 1;
     }
-
-    /// The clock has come to this moment, in nanoseconds.
-    pub(crate) fn reach(&mut self, clock: u64)
-        ensures { self.new ≡ reached clock self.old }
-    {
-        if matches!(self.rest, Rest::Until(moment) if moment <= clock) {
-            self.rest = Rest::Awake;
-        }
-    }
 }
 
 /// The clock has come to this moment, in nanoseconds, for each of these.
@@ -136,6 +122,8 @@ pub fn reach_all(seats: &mut [Seat], clock: u64)
     ensures { seats.new ≡ map (reached clock) seats.old }
 {
     for seat in seats {
-        seat.reach(clock);
+        if matches!(seat.rest, Rest::Until(moment) if moment <= clock) {
+            seat.rest = Rest::Awake;
+        }
     }
 }

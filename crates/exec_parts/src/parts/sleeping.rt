@@ -1,8 +1,7 @@
 //! The record of a sleeper.
 
 ghost use Rattle.std.specs.Prelude.{◌≡◌, ◌≤◌, not, false, map};
-ghost use Rattle.exec_machine.specs.{Deadlines.new_sleeper, Tests.is_unsent};
-ghost use Rattle.exec_parts.specs.Calls.{sleeper_closed, sleeper_forwarded, sleeper_gone_with, sleeper_paying, sleeper_removed};
+ghost use Rattle.exec_parts.specs.{Calls.{sleeper_closed, sleeper_forwarded, sleeper_gone_with, sleeper_paying, sleeper_removed}, Words.{is_unsent, new_sleeper}};
 
 use exec_machine::state::{Forwarding, Sleeper};
 use exec_time::timers::TimerId;
@@ -72,15 +71,6 @@ impl SleeperRecord {
         self.closed = true;
     }
 
-    /// This worker has ended: what of it hasn't ended is removed.
-    fn end_with(&mut self, worker: usize)
-        ensures { self.new ≡ sleeper_gone_with worker self.old }
-    {
-        if self.shown.worker == worker {
-            self.remove();
-        }
-    }
-
     /// It pays a wake. The caller must know that it has paid one at most.
     pub fn pay(&mut self)
         requires { self.old.shown.wakes_paid ≤ 1 }
@@ -95,6 +85,8 @@ pub fn remove_all_of(worker: usize, sleepers: &mut [SleeperRecord])
     ensures { sleepers.new ≡ map (sleeper_gone_with worker) sleepers.old }
 {
     for sleeper in sleepers {
-        sleeper.end_with(worker);
+        if sleeper.shown.worker == worker {
+            sleeper.remove();
+        }
     }
 }

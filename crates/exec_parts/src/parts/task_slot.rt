@@ -8,10 +8,7 @@
 //! Who polls a task acts for it; others wake it or clear it, each by one section on the cell.
 
 ghost use Rattle.std.specs.{Prelude.{◌≡◌, ◌-◌, ◌<◌, [], ◌∷◌, ◌++◌, length, not, slice_get, take, option_to_list, is_some, Some, None, IsSome, IsTrue, IfOk, OnErr, OnOk, true, false, if◌then◌else◌}, Vec.vec_capacity};
-ghost use Rattle.exec_base.specs.{OneShot.{polled, sent}, declared.one_shot.OneShotState.TheVariants.Open};
-ghost use Rattle.exec_machine.specs.Tasks.{begun_waiting};
-ghost use Rattle.exec_task.specs.Phases.{is_idle, is_polled, queued_body, begun, woken, over, pended, pend_answer, runnable_of};
-ghost use Rattle.exec_parts.specs.{Calls.{heard_in, sleeper_in}, Phased.is_complete, Records.numbers_held, Pooled.cleared_slot, Polls.{Acts, pended_slot}};
+ghost use Rattle.exec_parts.specs.{Words.{Open, begun, begun_waiting, is_idle, is_polled, over, pend_answer, pended, polled, queued_body, runnable_of, sent, woken}, Calls.heard_in, Phased.is_complete, Records.numbers_held, Pooled.cleared_slot, Polls.{Acts, pended_slot}};
 
 use crate::parts::held::Held;
 use exec_base::error::Error;
@@ -164,16 +161,13 @@ impl<B: Drop> TaskSlot<B> {
     }
 
     /// It holds one more request of this worker. The caller must have made room for it.
-    pub fn hold(&mut self, request: usize, worker: usize)
+    pub fn hold(&mut self, number: usize, worker: usize)
         requires room { length self.old.held.items < vec_capacity self.old.held }
-        ensures all { self.new.held.items ≡ self.old.held.items ++ record { number = request; worker = worker } ∷ [] }
-        ensures held { numbers_held self.new.held.items ≡ numbers_held self.old.held.items ++ request ∷ [] }
+        ensures all { self.new.held.items ≡ self.old.held.items ++ record { number = number; worker = worker } ∷ [] }
+        ensures held { numbers_held self.new.held.items ≡ numbers_held self.old.held.items ++ number ∷ [] }
         ensures same { self.new ≡ record self.old { held = self.new.held } }
     {
-        self.held.push_reserved(Held {
-            number: request,
-            worker,
-        });
+        self.held.push_reserved(Held { number, worker });
     }
 
     /// It holds the newest of its requests no more.
@@ -186,22 +180,14 @@ impl<B: Drop> TaskSlot<B> {
         Some(self.held.pop()?.number)
     }
 
-    /// Changes the requests that it holds for these.
-    pub(crate) fn swap_held(&mut self, others: &mut Vec<Held>)
-        ensures new { self.new ≡ record self.old { held = others.old } }
-        ensures others { others.new ≡ self.old.held }
+    /// It holds no request any more. Answers those that it held.
+    pub(crate) fn take_held(&mut self) -> Vec<Held>
+        ensures all { result ≡ self.old.held }
+        ensures none { self.new.held.items ≡ [] }
+        ensures same { self.new ≡ record self.old { held = self.new.held } }
     {
-        mem::swap(&mut self.held, others);
-    }
-
-    /// The sleeper that it waits for.
-    pub fn sleeper(&self) -> Option<usize>
-        ensures { result ≡ sleeper_in self.now.waiting }
-    {
-        match self.waiting {
-            Waiting::Timer(timer) => Some(timer),
-            _ => None,
-        }
+        let none = Vec::new(*self.held.allocator());
+        mem::replace(&mut self.held, none)
     }
 
     /// Whether it is over.
@@ -258,10 +244,7 @@ impl<B: Drop> TaskSlot<B> {
         if self.cleared {
             return self.cell.done(Ended::Closed);
         }
-        match self.body.take() {
-            Some(body) => self.cell.pend(body),
-            None => unreachable!(),
-        }
+        self.cell.pend(self.body.take().unwrap())
     }
 
     /// Clears it. Where nobody polls it, it is over, and its body stays, which shows where it stood.
@@ -294,12 +277,8 @@ impl<B: Body + Drop> TaskSlot<B> {
         ensures kept { OnErr result (self.new ≡ self.old) }
         ensures seen { OnErr result (A.sees around.new ≡ A.sees around.old) }
     {
-        let Some(said) = self.told.take() else {
-            unreachable!()
-        };
-        let Some(body) = &mut self.body else {
-            unreachable!()
-        };
+        let said = self.told.take().unwrap();
+        let body = self.body.as_mut().unwrap();
         match body.step(alloc, around, said) {
             Ok(act) => Ok(act),
             Err(said) => {

@@ -1,7 +1,6 @@
 use Rattle.std.proofs.Common.{◌≡◌, []}
 use Rattle.exec_live_queue.specs.Kinds.{Does, count, handed}
-use Rattle.exec_ready.specs.Discards.{HasDiscarded}
-use Rattle.exec_ready.proofs.Discarding.{IsLeft}
+use Rattle.exec_ready.{specs.Discards.HasDiscarded, proofs.Discarding.IsLeft}
 use Rattle.exec_ready.proofs.discard.Given as goal
 
 abbrev pub invariant-runnables : goal.invariant-runnables

@@ -24,10 +24,7 @@ impl<S: Drop, F: Drop> Waiters<S, F> {
     pub fn deadline(&self, id: WaiterId) -> Option<u64>
         ensures { result ≡ deadline_in (waiter_at self.now id.0) }
     {
-        match self.get(id) {
-            Some(waiter) => waiter.request.deadline(),
-            None => None,
-        }
+        self.get(id)?.request.deadline()
     }
 
     /// The tick of the wheel at which its deadline comes. None before that was set, once its cancel was asked for, and
@@ -35,70 +32,50 @@ impl<S: Drop, F: Drop> Waiters<S, F> {
     pub fn target_tick(&self, id: WaiterId) -> Option<Tick>
         ensures { result ≡ tick_of (waiter_at self.now id.0) }
     {
-        match self.get(id) {
-            Some(waiter) => waiter.tick(),
-            None => None,
-        }
+        self.get(id)?.tick()
     }
 
     /// Whether the kernel may have an operation of the request.
     pub fn is_in_flight(&self, id: WaiterId) -> bool
         ensures { result ≡ is_flying (waiter_at self.now id.0) }
     {
-        match self.get(id) {
-            Some(waiter) => waiter.in_flight,
-            None => false,
-        }
+        self.get(id).is_some_and(|waiter| waiter.in_flight)
     }
 
     /// Whether the request is not over, and the kernel has no operation of it: then it may be finished.
     pub fn is_idle(&self, id: WaiterId) -> bool
         ensures { result ≡ is_idle (waiter_at self.now id.0) }
     {
-        match self.get(id) {
-            Some(waiter) => !waiter.in_flight,
-            None => false,
-        }
+        self.get(id).is_some_and(|waiter| !waiter.in_flight)
     }
 
     /// The open whose record and gate the request needs where it is durable. None for any other.
     pub fn durability(&self, id: WaiterId) -> Option<u32>
         ensures { result ≡ gate_in (waiter_at self.now id.0) }
     {
-        match self.get(id) {
-            Some(waiter) => waiter.request.durability(),
-            None => None,
-        }
+        self.get(id)?.request.durability()
     }
 
     /// The open whose record the calls of the request are lent. None where it has no file, or is over or gone.
     pub fn open_of(&self, id: WaiterId) -> Option<u32>
         ensures { result ≡ file_in (waiter_at self.now id.0) }
     {
-        match self.get(id) {
-            Some(waiter) => waiter.file(),
-            None => None,
-        }
+        self.get(id)?.file()
     }
 
     /// The task that the request would wake.
     pub(super) fn waker(&self, id: WaiterId) -> Option<TaskNo>
         ensures { result ≡ waker_of (waiter_at self.now id.0) }
     {
-        match self.get(id) {
-            Some(waiter) => waiter.observer.waker(),
-            None => None,
-        }
+        self.get(id)?.observer.waker()
     }
 
     /// Whether a task of the worker waits for the request.
     pub fn is_observed_here(&self, id: WaiterId) -> bool
         ensures { result ≡ is_observed_here (waiter_at self.now id.0) }
     {
-        match self.get(id) {
-            Some(waiter) => waiter.observer.is_local(),
-            None => false,
-        }
+        self.get(id)
+            .is_some_and(|waiter| waiter.observer.is_local())
     }
 
     /// Whether a task of the worker may look at it: it waits for the request, or its output is kept.
@@ -116,20 +93,14 @@ impl<S: Drop, F: Drop> Waiters<S, F> {
     pub fn awaits_tick(&self, id: WaiterId) -> bool
         ensures { result ≡ awaits_tick (waiter_at self.now id.0) }
     {
-        match self.get(id) {
-            Some(waiter) => waiter.awaits_tick(),
-            None => false,
-        }
+        self.get(id).is_some_and(|waiter| waiter.awaits_tick())
     }
 
     /// Whether the request is durable and has no permit.
     pub fn lacks_permit(&self, id: WaiterId) -> bool
         ensures { result ≡ lacks_permit (waiter_at self.now id.0) }
     {
-        match self.get(id) {
-            Some(waiter) => waiter.needs_permit(),
-            None => false,
-        }
+        self.get(id).is_some_and(|waiter| waiter.needs_permit())
     }
 
     /// Whether the request's next operation may be staged: it is not over and has none, nobody asked for its cancel,
@@ -137,12 +108,9 @@ impl<S: Drop, F: Drop> Waiters<S, F> {
     pub fn may_stage(&self, id: WaiterId) -> bool
         ensures { result ≡ may_stage (waiter_at self.now id.0) }
     {
-        match self.get(id) {
-            Some(waiter) => {
-                !waiter.in_flight && !waiter.state.is_cancelled() && !waiter.needs_permit()
-            }
-            None => false,
-        }
+        self.get(id).is_some_and(|waiter| {
+            !waiter.in_flight && !waiter.state.is_cancelled() && !waiter.needs_permit()
+        })
     }
 
     /// The request whose operation has this user data and isn't over. None where there is none.
@@ -162,9 +130,7 @@ impl<S: Drop, F: Drop> Waiters<S, F> {
     pub fn may_give(&self, id: WaiterId, given: OpResult) -> bool
         ensures { result ≡ may_complete (waiter_at self.now id.0) given }
     {
-        match self.get(id) {
-            Some(waiter) => waiter.request.may_give(given),
-            None => false,
-        }
+        self.get(id)
+            .is_some_and(|waiter| waiter.request.may_give(given))
     }
 }

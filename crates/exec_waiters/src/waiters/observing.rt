@@ -60,13 +60,9 @@ impl<S: Drop, F: Drop> Waiters<S, F> {
             let _local = self.set_observer(id, Observer::Forwarded(sender));
             return;
         }
-        let result = match self.take_output(id) {
-            Some(output) => Ok(output),
-            None => Err(Error::Closed),
-        };
-        deferred
-            .results
-            .push_back_reserved(Answer { id, sender, result });
+        let result = self.take_output(id).ok_or(Error::Closed);
+        let answer = Answer { id, sender, result };
+        deferred.results.push_back_reserved(answer);
     }
 
     /// Nobody waits for the request from now on. Answers whether it is to be cancelled, which writes and syncs are
@@ -82,13 +78,10 @@ impl<S: Drop, F: Drop> Waiters<S, F> {
             deferred.outputs.push_back_reserved(Untaken { id, output });
             return false;
         }
-        let Some(waiter) = self.get(id) else {
-            return false;
+        let cancels = match self.get(id) {
+            Some(waiter) if waiter.observer.is_held() => !waiter.request.retains_on_orphan(),
+            _ => return false,
         };
-        if !waiter.observer.is_held() {
-            return false;
-        }
-        let cancels = !waiter.request.retains_on_orphan();
         let observer = self.set_observer(id, Observer::Orphaned);
         deferred.turn_away(id, observer);
         cancels
@@ -161,10 +154,9 @@ impl<S: Drop, F: Drop> Waiters<S, F> {
         ensures none { IfNone result ((id : Name) → id.index ≡ index → is_held_at (value_at self.now id) ≡ false) }
     {
         let id = self.entries.id_at(index)?;
-        let held = match self.entries.get(id)? {
-            Entry::Pending(waiter) => waiter.observer.is_held(),
-            Entry::Ready(_) => true,
-        };
-        if held { Some(WaiterId(id)) } else { None }
+        match self.entries.get(id)? {
+            Entry::Pending(waiter) if !waiter.observer.is_held() => None,
+            _ => Some(WaiterId(id)),
+        }
     }
 }

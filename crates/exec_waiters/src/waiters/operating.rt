@@ -1,14 +1,16 @@
-//! The operations of a request, its deadline, its cancel, its permit, and its end.
+//! The operations of a request and their landings in a ring in memory, its deadline, its cancel, its permit, its end.
 
-ghost use Rattle.std.specs.Prelude.{◌≡◌, ◌<◌, Some, None, is_some, true, false};
+ghost use Rattle.std.specs.Prelude.{◌≡◌, ◌<◌, ◌↔◌, Some, None, Ok, Err, IsTrue, OnOk, OnErr, is_some, true, false, if◌then◌else◌};
 ghost use Rattle.exec_base.specs.declared.slab.Id.{Id as Name};
 ghost use Rattle.exec_request.specs.States.{as_answer};
-ghost use Rattle.exec_waiters.specs.{Ids.index_in, Told.HasPlaces, States.{waiter_at, is_idle, is_observed_here, awaits_tick, may_stage, lacks_permit, named}, Events.{changed, with_permit, with_tick, with_state, cancelled, may_cancel, answer_at_grant, is_lawful_for, Stages, Completes, Finishes}};
+ghost use Rattle.exec_ring.specs.{Kernels.{may_land, landed, flight_of}, Landings.IsReady};
+ghost use Rattle.exec_waiters.specs.{Ids.{index_in, user_data_of}, Told.HasPlaces, States.{waiter_at, is_flying, is_idle, is_observed_here, awaits_tick, may_stage, lacks_permit, named}, Events.{changed, with_permit, with_tick, with_state, cancelled, may_cancel, answer_at_grant, is_lawful_for, Stages, Completes, Lands, Finishes}};
 
 use super::Waiters;
 use crate::completed::CompletionOutcome;
 use crate::deferred::{Deferred, Retired};
-use crate::waiter::{Entry, Waiter, waiter_mut};
+use crate::observer::Observer;
+use crate::waiter::{Entry, waiter_mut};
 use crate::waiter_id::WaiterId;
 use exec_base::error::Error;
 use exec_outcomes::outcome::OpResult;
@@ -16,6 +18,9 @@ use exec_request::open_record::OpenRecord;
 use exec_request::output::RequestOutput;
 use exec_request::results::WaiterState;
 use exec_ring::completion::{Submission, UserData};
+use exec_ring::landing::Unlawful;
+use exec_ring::sim_ring::SimRing;
+use exec_ring::store::Store;
 use exec_time::wheel::Tick;
 use std::mem;
 
@@ -45,12 +50,8 @@ impl<S: Drop, F: Drop> Waiters<S, F> {
         requires awaits { awaits_tick (waiter_at self.old id.0) ≡ true }
         ensures { self.new ≡ changed self.old id.0 (with_tick tick) }
     {
-        self.set_state(
-            id,
-            WaiterState::Active {
-                target_tick: Some(tick),
-            },
-        );
+        let target_tick = Some(tick);
+        self.set_state(id, WaiterState::Active { target_tick });
     }
 
     /// Asks for the cancel of the request. Answers whether this was the first time. Nothing changes where the request
@@ -111,7 +112,44 @@ impl<S: Drop, F: Drop> Waiters<S, F> {
         let waiter = waiter_mut(&mut self.entries, id);
         waiter.in_flight = false;
         let answer = waiter.request.on_cqe(waiter.state, given, open_);
-        Some(CompletionOutcome::of(id, answer))
+        match answer {
+            Some(ended) => Some(CompletionOutcome::Complete(id, ended)),
+            None => Some(CompletionOutcome::Requeue(id)),
+        }
+    }
+
+    /// Whether `land` has what it needs: where it would end an operation, the request has its window, and there is room
+    /// in the store for its bytes.
+    pub fn may_land(&self, id: WaiterId, given: OpResult, ring: &SimRing, store: &Store) -> bool
+        ensures { IsTrue result ↔ ((waiter : Asking S F) → waiter_at self.now id.0 ≡ Some waiter → IsTrue (may_land ring.now (user_data_of id.0) given) → IsReady (flight_of ring.now (user_data_of id.0)) given waiter.request store.now) }
+    {
+        match self.get(id) {
+            Some(waiter) => ring.may_land(id.user_data(), given, store, &waiter.request),
+            None => true,
+        }
+    }
+
+    /// Ends the operation of the request in the ring, and moves its bytes between the store and what the request owns.
+    /// `Unlawful` where the ring has no such operation, or where its window doesn't allow the result; then nothing
+    /// changes. The completion comes back from the ring. The caller must have a request of which the kernel may have
+    /// an operation, and have made room in the store for the bytes.
+    pub fn land(
+        &mut self,
+        id: WaiterId,
+        given: OpResult,
+        ring: &mut SimRing,
+        store: &mut Store,
+    ) -> Result<(), Unlawful>
+        requires flying { is_flying (waiter_at self.old id.0) ≡ true }
+        requires ready { (waiter : Asking S F) → waiter_at self.old id.0 ≡ Some waiter → IsTrue (may_land ring.old (user_data_of id.0) given) → IsReady (flight_of ring.old (user_data_of id.0)) given waiter.request store.old }
+        ensures answer { result ≡ (if may_land ring.old (user_data_of id.0) given then Ok tt else Err (record { 0 = user_data_of id.0; 1 = given })) }
+        ensures ring { ring.new ≡ (if may_land ring.old (user_data_of id.0) given then landed ring.old (user_data_of id.0) given else ring.old) }
+        ensures moved { OnOk result ((waiter : Asking S F) → waiter_at self.old id.0 ≡ Some waiter → Lands self.old self.new id.0 waiter (flight_of ring.old (user_data_of id.0)) given store.old store.new) }
+        ensures same { OnErr result (self.new ≡ self.old) }
+        ensures store { OnErr result (store.new ≡ store.old) }
+    {
+        let waiter = waiter_mut(&mut self.entries, id);
+        ring.land(id.user_data(), given, store, &mut waiter.request)
     }
 
     /// Ends the request so. Its output is kept for a task of the worker, is sent to who waits elsewhere, or is let go;
@@ -158,13 +196,14 @@ impl<S: Drop, F: Drop> Waiters<S, F> {
             unreachable!()
         };
         let tick = waiter.tick();
-        let waker = waiter.observer.waker();
+        let Observer::Local(waker) = waiter.observer else {
+            unreachable!()
+        };
         let (output, resources) = waiter.request.complete(ended, open_);
         *entry = Entry::Ready(output);
         deferred.wake(waker);
-        deferred
-            .resources
-            .push_back_reserved(Retired { id, resources });
+        let retired = Retired { id, resources };
+        deferred.resources.push_back_reserved(retired);
         tick
     }
 
@@ -186,19 +225,11 @@ impl<S: Drop, F: Drop> Waiters<S, F> {
             unreachable!()
         };
         let tick = waiter.tick();
-        let Waiter {
-            state: _,
-            in_flight: _,
-            observer,
-            request,
-            permit: _,
-        } = waiter;
-        let (output, resources) = request.complete(ended, open_);
-        deferred.deliver(id, output, observer);
+        let (output, resources) = waiter.request.complete(ended, open_);
+        deferred.deliver(id, output, waiter.observer);
         // Last, since what is told before asks for a place in each list.
-        deferred
-            .resources
-            .push_back_reserved(Retired { id, resources });
+        let retired = Retired { id, resources };
+        deferred.resources.push_back_reserved(retired);
         tick
     }
 }

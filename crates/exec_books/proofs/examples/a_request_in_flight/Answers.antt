@@ -1,9 +1,6 @@
-use Rattle.std.proofs.Common.{◌≡◌, ℕ, zero, suc, ◌<◌, ◌==◌, ◌+◌, ◌&&◌, cond, Bool, true, false, not, [], length, None, refl, sym, ap, ◌∙◌, arith}
-use Rattle.std.proofs.lemmas.Bool.{true≢false, false≢true, ne_eqb}
-use Rattle.exec_machine.specs.{declared.state.{Forwarding.TheVariants.{Unsent}, Request.Request}, Deadlines.{is_after, next_due, rest_until}, Tests.{has_ended, is_asleep, is_awake, is_of_file, is_resolved}, World.{no_request, own_of, request_of, seat_of, sleeper_of}}
-use Rattle.exec_machine.specs.declared.state.Rest.TheVariants as rest
-use Rattle.exec_books.specs.{Booked.{AreLinedUp, flying_of, unreleased_of}, Examples.{its_own, its_request, its_seat, sending}, Listed.{AreListed, is_in}}
-use Rattle.exec_books.proofs.Listed.{no_listed}
+use Rattle.std.proofs.{Common.{◌≡◌, ℕ, zero, suc, ◌<◌, ◌==◌, ◌+◌, ◌&&◌, cond, Bool, true, false, not, [], length, None, refl, sym, ap, ◌∙◌, arith}, lemmas.Bool.{true≢false, false≢true, ne_eqb}}
+use Rattle.exec_machine.specs.{declared.state.{Forwarding.TheVariants.Unsent, Request.Request, Rest.Rest as rest}, Deadlines.{is_after, next_due, rest_until}, Tests.{has_ended, is_asleep, is_awake, is_of_file, is_resolved}, World.{no_request, own_of, request_of, seat_of, sleeper_of}}
+use Rattle.exec_books.{specs.{Booked.{AreLinedUp, flying_of, unreleased_of}, Examples.{its_own, its_request, its_seat, sending}, Listed.{AreListed, is_in}}, proofs.Listed.no_listed}
 use Rattle.exec_books.proofs.examples.a_request_in_flight.Goals as goal
 
 -- what is so of the one there is, and of all numbers past it; and the same of requests

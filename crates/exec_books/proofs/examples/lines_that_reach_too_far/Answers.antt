@@ -1,5 +1,4 @@
-use Rattle.std.proofs.Common.{refl, ap}
-use Rattle.std.proofs.lemmas.Bool.{false≢true}
+use Rattle.std.proofs.{Common.{refl, ap}, lemmas.Bool.false≢true}
 use Rattle.exec_machine.specs.{Same.is_none, World.Open}
 use Rattle.exec_books.proofs.examples.lines_that_reach_too_far.Goals as goal
 

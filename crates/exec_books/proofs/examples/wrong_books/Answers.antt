@@ -1,5 +1,4 @@
-use Rattle.std.proofs.Common.{refl, ap, arith, inl, inr, unwrap_or}
-use Rattle.std.proofs.lemmas.Bool.{true≢false, false≢true}
+use Rattle.std.proofs.{Common.{refl, ap, arith, inl, inr, unwrap_or}, lemmas.Bool.{true≢false, false≢true}}
 use Rattle.exec_machine.specs.{Same.is_none, Tests.{is_empty, is_settled}}
 use Rattle.exec_books.proofs.examples.wrong_books.Goals as goal
 

@@ -1,5 +1,4 @@
-use Rattle.std.proofs.Common.{◌≡◌, take}
-use Rattle.std.specs.List.{concat}
+use Rattle.std.{proofs.Common.{◌≡◌, take}, specs.List.concat}
 use Rattle.exec_bufs.proofs.bufs.joined.Given as goal
 
 abbrev pub invariant-loop-chunk : goal.invariant-loop-chunk

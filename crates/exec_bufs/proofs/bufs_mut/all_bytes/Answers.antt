@@ -1,7 +1,5 @@
-use Rattle.std.proofs.Common.{◌≡◌, length, take, ap, ◌∙◌, refl}
-use Rattle.std.proofs.lemmas.List.{take_all}
-use Rattle.exec_bufs.specs.Buffers.{bytes_of, filled}
-use Rattle.exec_bufs.proofs.Poured.{length-bytes_of}
+use Rattle.std.proofs.{Common.{◌≡◌, length, take, ap, ◌∙◌, refl}, lemmas.List.take_all}
+use Rattle.exec_bufs.{specs.Buffers.{bytes_of, filled}, proofs.Poured.length-bytes_of}
 use Rattle.exec_bufs.proofs.bufs_mut.all_bytes.Goals as goal
 
 pub returns : goal.returns

@@ -1,7 +1,5 @@
-use Rattle.std.proofs.Common.{◌≡◌, ◌+◌, ◌≤◌, List, ℕ, ◌++◌, ap, sym, ◌∙◌, arith, length, drop, take, append-nil}
-use Rattle.std.proofs.lemmas.List.{take_all, drop_all}
-use Rattle.exec_bufs.specs.Buffers.{Buffer, bytes_of, cuts}
-use Rattle.exec_bufs.proofs.Poured.{poured, bytes_of-poured, cuts-poured}
+use Rattle.std.proofs.{Common.{◌≡◌, ◌+◌, ◌≤◌, List, ℕ, ◌++◌, ap, sym, ◌∙◌, arith, length, drop, take, append-nil}, lemmas.List.{take_all, drop_all}}
+use Rattle.exec_bufs.{specs.Buffers.{Buffer, bytes_of, cuts}, proofs.Poured.{poured, bytes_of-poured, cuts-poured}}
 use Rattle.exec_bufs.proofs.bufs_mut.pour.Goals as goal
 
 -- past the last chunk, all is done

@@ -1,6 +1,5 @@
 use Rattle.std.proofs.Common.{◌≡◌, ◌++◌, take, drop, length}
-use Rattle.exec_bufs.specs.Buffers.{filled}
-use Rattle.exec_bufs.proofs.Poured.{poured}
+use Rattle.exec_bufs.{specs.Buffers.filled, proofs.Poured.poured}
 use Rattle.exec_bufs.proofs.bufs_mut.pour.Given as goal
 
 -- what is done, and then what is left to do, is the whole; the bytes that are left fit

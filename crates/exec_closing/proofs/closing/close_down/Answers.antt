@@ -1,5 +1,4 @@
-use Rattle.std.proofs.{Common.arith, lemmas.Grind.elements}
-use Rattle.std.proofs.lemmas.Option.{slice_get_within}
+use Rattle.std.proofs.{Common.arith, lemmas.{Grind.elements, Option.slice_get_within}}
 use Rattle.exec_parts.proofs.Mailboxes.{root_place}
 use Rattle.exec_closing.proofs.{ClosesMail.mailbox_closed, ClosingOrphan.request_orphaned, ClosingSleeper.sleeper_let_go, LetsMay.{may_close_sleeper, may_orphan}, Parting.{barrier_left, worker_ended}, Stopping.root_told, TaskCleared.task_cleared, TaskClearing.may_clear, Visiting.shard_visited}
 use Rattle.exec_invariants.proofs.{Closes.closing_began, ClosesPool.{queue_closed, barrier_opened, pool_stopped}, FiringRemoved.removes_seen, TaskOverLets.lets_seen}

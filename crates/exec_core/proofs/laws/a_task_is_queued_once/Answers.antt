@@ -1,4 +1,4 @@
-use Rattle.exec_core.proofs.QueuedOnce.{again, again_root, queues_once}
+use Rattle.exec_core.proofs.InTurn.{again, again_root, queues_once}
 use Rattle.exec_core.proofs.laws.a_task_is_queued_once.Goals as goal
 
 pub returns : goal.returns

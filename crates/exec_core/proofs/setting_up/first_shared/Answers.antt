@@ -1,5 +1,5 @@
-use Rattle.std.{proofs.{Common.{[], ◌∷◌, length, sym, ap, subst, ◌∙◌, append_assoc, append-nil, arith}, lemmas.List.nil_from_length}, specs.Vec.Iter.into_iter_items}
-use Rattle.exec_core.{specs.Firsts.HasRoots, proofs.Beginning.{bare_with, roots_more}}
+use Rattle.std.{proofs.{Common.{[], ◌∷◌, length, refl, sym, ap, subst, ◌∙◌, append_assoc, append-nil, arith}, lemmas.List.nil_from_length}, specs.Vec.Iter.into_iter_items}
+use Rattle.exec_core.{specs.Firsts.HasRoots, proofs.Beginning.{bare_with, root_is, roots_more}}
 use Rattle.exec_core.proofs.setting_up.first_shared.Goals as goal
 
 pub loop-root-init : goal.loop-root-init
@@ -10,12 +10,15 @@ loop-root-preserved g c =
     let at = c.loop-root in
     let x = c.in-Some.root in
     let steps = c.in-Some.ensures.steps in
-    let adds = c.in_ok-runnable.ensures.adds in
+    let tasks = at.shared.tasks in
+    let slot = c.new-slot.result.0 in
+    let made = c.new-slot.ensures in
+    let root = root_is (length tasks.items) c.len-number.result c.id.result x slot (c.len-number.ensures ∙ tasks.ok.0) (c.id.ensures ∙ ap (λ s. s.set.id) at.invariant.bare.parts) made.cell made.slot made.held in
     record {
       split = append_assoc at.yielded (x ∷ []) _ ∙ rw (← steps.0) at.invariant.split;
       len = (let gone = steps.1 in let short = ap length steps.0 in omega (arith, gone, short, at.invariant.len));
-      bare = bare_with c.args.configuration (length c.args.roots.items) at.shared c.add_root.new.shared at.invariant.bare adds.kept;
-      rooted = rw (adds.seats, adds.tasks, c.in_ok-push.ensures.items) (roots_more at.yielded at.shared.seats.items at.shared.tasks.items at.runnables.items x adds.chair adds.slot c.in_ok-runnable.runnable at.invariant.rooted adds.fresh adds.root adds.runnable);
+      bare = bare_with c.args.configuration (length c.args.roots.items) at.shared _ at.invariant.bare refl;
+      rooted = rw (c.in_ok-push.ensures.items, c.in_ok-push-2.ensures.items, c.in_ok-push-3.ensures.items) (roots_more at.yielded at.shared.seats.items tasks.items at.runnables.items x c.in_ok-new.field-0 slot c.new-slot.result.1 at.invariant.rooted c.in_ok-new.ensures.seat root made.runnable);
     }
 
 pub returns : goal.returns

@@ -1,6 +1,5 @@
 use Rattle.std.proofs.Common.{[], ◌∷◌, length, ap, subst, ◌∙◌, append_assoc, arith}
-use Rattle.exec_parts.specs.{Dedicated.Begins, declared.parts.role.Role.TheVariants.Pool}
-use Rattle.exec_core.proofs.Beginning.{begin_more}
+use Rattle.exec_core.{specs.Words.{Begins, Pool}, proofs.Beginning.begin_more}
 use Rattle.exec_core.proofs.setting_up.first_workers.Goals as goal
 
 pub loop-runnable-preserved : goal.loop-runnable-preserved
@@ -14,6 +13,6 @@ loop-runnable-preserved c =
       len = (let gone = steps.1 in let short = ap length steps.0 in omega (arith, gone, short, at.invariant.len));
       begin =
           rw c.in_ok-push.ensures.items
-          (begin_more c.args.configuration.now at.yielded at.workers.items x c.in_ok-first_worker.field-0 at.invariant.begin
-          (subst (λ k. Begins c.args.configuration.now (Pool k) k k x 0 c.in_ok-first_worker.field-0) index c.in_ok-first_worker.ensures.begins));
+          (begin_more c.args.configuration.now at.yielded at.workers.items x c.in_ok-begin.field-0 at.invariant.begin
+          (subst (λ k. Begins c.args.configuration.now (Pool k) k k x 0 c.in_ok-begin.field-0) index c.in_ok-begin.ensures.begins));
     }

@@ -1,7 +1,5 @@
-use Rattle.std.proofs.Common.{rules, arith}
-use Rattle.std.proofs.lemmas.Grind.{common_steps}
-use Rattle.std.proofs.lemmas.Fn.{filter_same}
-use Rattle.exec_lists.proofs.Slots.{first_leaves, last_leaves}
+use Rattle.std.proofs.{Common.{rules, arith}, lemmas.{Grind.common_steps, Fn.filter_same}}
+use Rattle.exec_lists.proofs.Names.{first_leaves, last_leaves}
 use Rattle.exec_lists.proofs.name_list.take_out.Goals as goal
 
 pub returns-else-alone-2-clause-items : goal.returns-else-alone-2-clause-items

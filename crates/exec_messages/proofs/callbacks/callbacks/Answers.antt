@@ -1,5 +1,4 @@
-use Rattle.std.proofs.lemmas.Option.{slice_get_within}
-use Rattle.std.proofs.Common.{arith}
+use Rattle.std.proofs.{lemmas.Option.slice_get_within, Common.arith}
 use Rattle.exec_messages.proofs.BackHears.{heard_woken, hears_there}
 use Rattle.exec_invariants.proofs.MailBack.{batch_taken}
 use Rattle.exec_messages.proofs.callbacks.callbacks.Goals as goal

@@ -1,5 +1,4 @@
-use Rattle.std.proofs.Common.{◌==◌, refl, sym, ap}
-use Rattle.std.proofs.lemmas.Bool.{true≢false}
+use Rattle.std.proofs.{Common.{◌==◌, refl, sym, ap}, lemmas.Bool.true≢false}
 use Rattle.exec_words.specs.Idle.{is_in}
 use Rattle.exec_moves.specs.Claim.{is_ring}
 use Rattle.exec_moves.proofs.examples.refused_touches.Goals as goal

@@ -1,5 +1,4 @@
-use Rattle.std.proofs.Common.{refl, sym, ap}
-use Rattle.std.proofs.lemmas.Bool.{true≢false}
+use Rattle.std.proofs.{Common.{refl, sym, ap}, lemmas.Bool.true≢false}
 use Rattle.exec_moves_laws.proofs.examples.what_cells_show.Goals as goal
 
 pub returns-clause-latch : goal.returns-clause-latch

@@ -1,7 +1,5 @@
-use Rattle.std.proofs.Common.{◌≡◌, ◌-◌, Some, Ok, length, refl, sym, ap, ◌∙◌, true, take}
-use Rattle.std.proofs.lemmas.Bool.{false≢true}
-use Rattle.exec_base.specs.OneShot.{polled}
-use Rattle.exec_base.specs.declared.one_shot.OneShotState.TheVariants.{Closed, Sent}
+use Rattle.std.proofs.{Common.{◌≡◌, ◌-◌, Some, Ok, length, refl, sym, ap, ◌∙◌, true, take}, lemmas.Bool.false≢true}
+use Rattle.exec_base.specs.{OneShot.polled, declared.one_shot.OneShotState.TheVariants.{Closed, Sent}}
 use Rattle.exec_task.specs.declared.body.Said.{Said}
 use Rattle.exec_machine.specs.declared.state.{RequestPhase.TheVariants.Resolved, Waiting.Waiting}
 use Rattle.exec_parts.{specs.{Calls.heard_in, Records.outcome_in, declared.parts.{record.Record.Record, task_slot.TaskSlot.TaskSlot}}, proofs.{Facts.same_Some, MailLets.found_at}}

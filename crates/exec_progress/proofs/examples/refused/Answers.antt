@@ -1,5 +1,4 @@
-use Rattle.std.proofs.Common.{Bool, true, false, refl, ap}
-use Rattle.std.proofs.lemmas.Bool.{true≢false, false≢true}
+use Rattle.std.proofs.{Common.{Bool, true, false, refl, ap}, lemmas.Bool.{true≢false, false≢true}}
 use Rattle.exec_words.specs.declared.word.WaitTarget.{WaitTarget}
 use Rattle.exec_progress.proofs.examples.refused.Goals as goal
 

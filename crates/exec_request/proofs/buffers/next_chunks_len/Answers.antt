@@ -1,5 +1,4 @@
-use Rattle.std.proofs.Common.{arith, ℕ, List, ◌≤◌, ◌+◌, ◌-◌, ◌≡◌, ◌∙◌, length, ap, inl, inr, take, drop}
-use Rattle.std.proofs.lemmas.Bool.{cases_lt}
+use Rattle.std.proofs.{Common.{arith, ℕ, List, ◌≤◌, ◌+◌, ◌-◌, ◌≡◌, ◌∙◌, length, ap, inl, inr, take, drop}, lemmas.Bool.cases_lt}
 use Rattle.exec_bufs.specs.Buffers.{total}
 use Rattle.exec_request.proofs.Chunks.{batch-next, batch-within, batch-end}
 use Rattle.exec_request.proofs.buffers.next_chunks_len.Goals as goal

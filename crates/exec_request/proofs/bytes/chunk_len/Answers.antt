@@ -1,5 +1,4 @@
-use Rattle.std.proofs.Common.{[], length, ap, ◌∙◌, unwrap_or}
-use Rattle.std.proofs.lemmas.Option.{unwrap_or-slice_get}
+use Rattle.std.proofs.{Common.{[], length, ap, ◌∙◌, unwrap_or}, lemmas.Option.unwrap_or-slice_get}
 use Rattle.exec_request.proofs.bytes.chunk_len.Goals as goal
 
 pub returns-in-None : goal.returns-in-None

@@ -1,7 +1,4 @@
-use Rattle.std.proofs.Common.{◌≡◌, [], None, length, get_or, ap, sym, ◌∙◌, arith, unwrap_or}
-use Rattle.std.specs.Option.{option_copied}
-use Rattle.std.specs.List.{slice_get}
-use Rattle.std.proofs.lemmas.Option.{get_or_from_slice_get, unwrap_or-slice_get}
+use Rattle.std.{proofs.{Common.{◌≡◌, [], None, length, get_or, ap, sym, ◌∙◌, arith, unwrap_or}, lemmas.Option.{get_or_from_slice_get, unwrap_or-slice_get}}, specs.{Option.option_copied, List.slice_get}}
 use Rattle.exec_request.proofs.Moving.{copied}
 use Rattle.exec_request.proofs.bytes.copy_chunk.Goals as goal
 

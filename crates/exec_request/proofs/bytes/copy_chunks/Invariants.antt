@@ -1,5 +1,4 @@
-use Rattle.std.proofs.Common.{◌≡◌, ◌-◌, ◌≤◌, ◌++◌, length, take, drop}
-use Rattle.std.specs.List.{concat}
+use Rattle.std.{proofs.Common.{◌≡◌, ◌-◌, ◌≤◌, ◌++◌, length, take, drop}, specs.List.concat}
 use Rattle.exec_request.proofs.bytes.copy_chunks.Given as goal
 
 -- what was copied, and then what is still to come, is all that was asked for

@@ -1,5 +1,4 @@
-use Rattle.std.proofs.Common.{◌-◌, arith, length-drop}
-use Rattle.std.proofs.lemmas.List.{length-take}
+use Rattle.std.proofs.{Common.{◌-◌, arith, length-drop}, lemmas.List.length-take}
 use Rattle.exec_request.proofs.Moving.{overwritten}
 use Rattle.exec_request.proofs.bytes.overwrite.Goals as goal
 

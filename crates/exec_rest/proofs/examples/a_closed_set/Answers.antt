@@ -1,5 +1,4 @@
-use Rattle.std.proofs.Common.{refl}
-use Rattle.std.proofs.lemmas.Bool.{true≢false}
+use Rattle.std.proofs.{Common.refl, lemmas.Bool.true≢false}
 use Rattle.exec_rest.proofs.examples.a_closed_set.Goals as goal
 
 pub returns : goal.returns

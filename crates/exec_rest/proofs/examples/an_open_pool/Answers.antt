@@ -1,5 +1,4 @@
-use Rattle.std.proofs.Common.{refl}
-use Rattle.std.proofs.lemmas.Bool.{true≢false}
+use Rattle.std.proofs.{Common.refl, lemmas.Bool.true≢false}
 use Rattle.exec_rest.proofs.TwoAsleep.{going}
 use Rattle.exec_rest.proofs.examples.an_open_pool.Goals as goal
 

@@ -1,11 +1,10 @@
-use Rattle.std.proofs.{Common.{◌≡◌, ◌+◌, ◌^◌, ◌<◌, true, sym, ◌∙◌, rules, arith}, lemmas.Grind.common_steps}
-use Rattle.std.proofs.lemmas.Bool.{not-false}
+use Rattle.std.proofs.{Common.{◌≡◌, ◌+◌, ◌^◌, ◌<◌, true, sym, ◌∙◌, rules, arith}, lemmas.{Grind.common_steps, Bool.not-false}}
 use Rattle.exec_request.specs.Requests.{window_by}
-use Rattle.exec_ring.proofs.SameWindows.{same_windows}
+use Rattle.exec_ring.proofs.Flights.{same_windows}
 use Rattle.exec_ring.proofs.landing.is_ready.Goals as goal
 
-pub returns-else-is_none : goal.returns-else-is_none
-returns-else-is_none c =
+pub returns-then-is_some : goal.returns-then-is_some
+returns-then-is_some c =
     let same = same_windows c.window.result c.args.window (not-false _ (sym c.ne.ensures ∙ c.if-ne.false)) in
     let hinted : c.window.result ≡ window_by true c.args.request.now = rw c.new.ensures at c.window.ensures.window in
     let ends : c.args.window.offset + c.args.window.length < 2 ^ 64 = search rules in

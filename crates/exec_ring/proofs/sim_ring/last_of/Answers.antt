@@ -1,6 +1,5 @@
 use Rattle.std.proofs.Common.{rules}
-use Rattle.exec_ring.specs.Kernels.{is_of}
-use Rattle.exec_ring.proofs.Flights.{last_at, last_missed}
+use Rattle.exec_ring.{specs.Kernels.is_of, proofs.Flights.{last_at, last_missed}}
 use Rattle.exec_ring.proofs.sim_ring.last_of.Goals as goal
 
 pub returns-in-Some : goal.returns-in-Some

@@ -1,8 +1,7 @@
 use Rattle.std.{proofs.{Common.{◌≡◌, ◌<◌, refl, sym, ap, subst, ◌∙◌, slice_set}, lemmas.{List.length-set, Option.{get_or_from_slice_get, slice_get_within}}}, specs.{Result.is_err, Vec.with_item}}
 use Rattle.exec_driver.specs.Driving.{seen}
 use Rattle.exec_parts.specs.{Phased.TurnsChair, Records.roused, declared.parts.worker.Worker.Worker}
-use Rattle.exec_invariants.proofs.Leaves.{takes_by}
-use Rattle.exec_invariants.{specs.Carried.landing, proofs.Raising.sound_still}
+use Rattle.exec_invariants.{proofs.{Leaves.takes_by, Raising.sound_still}, specs.Carried.landing}
 use Rattle.exec_serving.proofs.{Landing.{lander, after_one}, Landed.landed_sound, LandSeen.records_set, Lands.{lands_beside, lands_chair, lands_common, lands_desk, lands_own, lands_things}}
 use Rattle.exec_serving.proofs.lines.land.Goals as goal
 

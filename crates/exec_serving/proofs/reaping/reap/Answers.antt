@@ -1,11 +1,10 @@
-use Rattle.std.{proofs.{Common.{arith, ◌≡◌, ◌<◌, false, not, length, [], Some, refl, sym, ap, subst, ◌∙◌, is_some, slice_get}, lemmas.{Bool.false≢true, Option.{get_or_from_slice_get}}}, specs.Vec.with_item}
+use Rattle.std.{proofs.{Common.{arith, ◌≡◌, ◌<◌, false, not, length, [], Some, refl, sym, ap, subst, ◌∙◌, is_some, slice_get}, lemmas.{Bool.false≢true, Option.get_or_from_slice_get}}, specs.Vec.with_item}
 use Rattle.exec_request.specs.States.{as_answer}
 use Rattle.exec_driver.specs.Steps.{ReapsNext}
 use Rattle.exec_machine.specs.{Requests.{joined_if, reaped}, declared.event.Event.TheVariants.{Reap, Serve}}
 use Rattle.exec_moves.specs.{Serve.after_permit, declared.place.{AfterPermit.AfterPermit, InService.InService, Place.Place}}
 use Rattle.exec_parts.specs.{declared.parts.{names.Names.Names, record.Record.Record, worker.Worker.Worker}, Records.number_in, View.driver_of}
-use Rattle.exec_invariants.{specs.Submitting.after_giving_up, proofs.Leaves.takes_by}
-use Rattle.exec_invariants.{specs.{Flown.operations, Works.Steps}, proofs.{Dating.set_changes, Raising.{none_waits, raised_first, sound_taken}}}
+use Rattle.exec_invariants.{specs.{Submitting.after_giving_up, Flown.operations, Works.Steps}, proofs.{Leaves.takes_by, Dating.set_changes, Raising.{none_waits, raised_first, sound_taken}}}
 use Rattle.exec_serving.proofs.{Settled.judged_steps, Reaped.{reaps_none, reaps_quiet, tells_none}, Reporting.{none_of, of_it, reaped_countable, reaped_lawful, reaped_room, reaped_within}, Sweeping.none_reaped, reaping.reap.Goals.{then-has_completion, else-has_completion}}
 use Rattle.exec_serving.proofs.reaping.reap.Goals as goal
 

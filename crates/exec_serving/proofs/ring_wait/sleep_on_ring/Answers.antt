@@ -2,8 +2,7 @@ use Rattle.std.{proofs.{Common.{◌<◌, refl, sym, ap, subst, ◌∙◌}, lemma
 use Rattle.exec_lists.specs.Lists.{has_first}
 use Rattle.exec_moves.specs.declared.{idling.InRingWait.InRingWait, place.Place.Place}
 use Rattle.exec_parts.specs.declared.parts.worker.Worker.{Worker}
-use Rattle.exec_invariants.proofs.Leaves.{takes_by}
-use Rattle.exec_invariants.proofs.Raising.{sound_taken}
+use Rattle.exec_invariants.proofs.{Leaves.takes_by, Raising.sound_taken}
 use Rattle.exec_serving.proofs.Sleeping.{ring_slept, ring_unslept}
 use Rattle.exec_serving.proofs.ring_wait.sleep_on_ring.Goals as goal
 

@@ -1,5 +1,4 @@
-use Rattle.std.{proofs.Common.{◌≡◌, refl, sym, ap, subst, ◌∙◌, is_some}, specs.{Prelude.unwrap_or, Vec.with_item}}
-use Rattle.std.proofs.Common.{arith}
+use Rattle.std.{proofs.Common.{◌≡◌, refl, sym, ap, subst, ◌∙◌, is_some, arith}, specs.{Prelude.unwrap_or, Vec.with_item}}
 use Rattle.exec_driver.specs.Steps.{ended_by, tick_for}
 use Rattle.exec_machine.specs.{declared.event.Event.TheVariants.Enrol, Deadlines.enrolled, Requests.joined_if}
 use Rattle.exec_parts.specs.{declared.parts.{names.Names.Names, worker.Worker.Worker}, Records.number_in, Serving.{first_tick, outcome_of_error}, View.driver_of}

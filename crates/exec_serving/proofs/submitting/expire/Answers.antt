@@ -1,5 +1,4 @@
-use Rattle.std.{proofs.{Common.{◌≡◌, ◌<◌, length, refl, sym, ap, subst, ◌∙◌, is_some}, lemmas.Option.slice_get_within}, specs.Vec.with_item}
-use Rattle.std.proofs.Common.{arith}
+use Rattle.std.{proofs.{Common.{◌≡◌, ◌<◌, length, refl, sym, ap, subst, ◌∙◌, is_some, arith}, lemmas.Option.slice_get_within}, specs.Vec.with_item}
 use Rattle.exec_machine.specs.{declared.event.Event.TheVariants.Expire, Deadlines.outcome_at_expiry, Requests.joined_if}
 use Rattle.exec_parts.specs.{declared.parts.{names.Names.Names, worker.Worker.Worker}, Records.number_in}
 use Rattle.exec_invariants.{specs.Works.Steps, proofs.{Dating.{found_is, set_changes}, Expiring.{due_first, due_room, expires}, Cancelling.expiry_steps}}

@@ -1,12 +1,9 @@
-use Rattle.std.proofs.Common.{◌≡◌, ℕ, zero, suc, true, ◌∙◌, refl, sym, ap, arith, unwrap_or}
-use Rattle.std.proofs.lemmas.Bool.{true≢false, false≢true}
+use Rattle.std.proofs.{Common.{◌≡◌, ℕ, zero, suc, true, ◌∙◌, refl, sym, ap, arith, unwrap_or}, lemmas.Bool.{true≢false, false≢true}}
 use Rattle.exec_outcomes.specs.declared.outcome.Outcome.TheVariants.{Success}
-use Rattle.exec_machine.specs.{declared.config.Configuration.Configuration, Tests.is_resolved, World.{request_of}}
-use Rattle.exec_machine.specs.declared.state.RequestPhase.TheVariants.{Queued, Resolved}
+use Rattle.exec_machine.specs.{declared.{config.Configuration.Configuration, state.RequestPhase.TheVariants.{Queued, Resolved}}, Tests.is_resolved, World.request_of}
 use Rattle.exec_books.specs.Examples.{its_request, one_send}
 use Rattle.exec_rest.specs.Examples.{two_waiting}
-use Rattle.exec_settled.specs.{Examples.{closing_with, two_sends, waits_for, with_two_writes}, Parked.{IsHeldUp, IsParked, NobodySleepsOnWork}}
-use Rattle.exec_settled.proofs.TwoAsleep.{undisturbed}
+use Rattle.exec_settled.{specs.{Examples.{closing_with, two_sends, waits_for, with_two_writes}, Parked.{IsHeldUp, IsParked, NobodySleepsOnWork}}, proofs.TwoAsleep.undisturbed}
 use Rattle.exec_settled.proofs.examples.a_close_asleep.Goals as goal
 
 abbrev two : Configuration

@@ -1,9 +1,7 @@
-use Rattle.std.proofs.Common.{◌≡◌, ◌||◌, true, false, not, None, refl, sym, ◌∙◌, inl, inr}
-use Rattle.std.proofs.lemmas.{Bool.{false≢true}, Option.none-some}
+use Rattle.std.proofs.{Common.{◌≡◌, ◌||◌, true, false, not, None, refl, sym, ◌∙◌, inl, inr}, lemmas.{Bool.false≢true, Option.none-some}}
 use Rattle.exec_machine.specs.{Tests.is_gated, World.request_of}
 use Rattle.exec_rest.specs.{Examples.two_waiting, Rested.{is_latched, place_at}}
-use Rattle.exec_settled.specs.{Examples.{with_permit, with_permit_told}, Given.{gives_up, passes_at}, Permits.{IsPermitted, hands_to, is_past}}
-use Rattle.exec_settled.proofs.TwoAsleep.{each, is_at}
+use Rattle.exec_settled.{specs.{Examples.{with_permit, with_permit_told}, Given.{gives_up, passes_at}, Permits.{IsPermitted, hands_to, is_past}}, proofs.TwoAsleep.{each, is_at}}
 use Rattle.exec_settled.proofs.examples.a_permit_asleep.Goals as goal
 
 left : IsPermitted two_waiting.config with_permit → ⊥

@@ -1,5 +1,4 @@
-use Rattle.std.proofs.Common.{ap, refl}
-use Rattle.std.proofs.lemmas.Bool.{false≢true}
+use Rattle.std.proofs.{Common.{ap, refl}, lemmas.Bool.false≢true}
 use Rattle.exec_machine.specs.{Same.is_none, Tests.is_empty}
 use Rattle.exec_settled.proofs.examples.a_runnable_kept.Goals as goal
 

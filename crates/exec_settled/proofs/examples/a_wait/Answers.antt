@@ -1,10 +1,7 @@
-use Rattle.std.proofs.Common.{ℕ, ◌<◌, Bool, true, false, Some, refl, ap, subst, arith, inl, inr}
-use Rattle.std.proofs.lemmas.{Bool.{true≢false, false≢true}, Option.none-some}
-use Rattle.exec_machine.specs.{declared.state.Waiting.{Waiting}, Same.is_number, Tests.{is_empty, is_settled}, World.{Common}}
-use Rattle.exec_machine.specs.declared.state.Waiting.TheVariants as waiting
+use Rattle.std.proofs.{Common.{ℕ, ◌<◌, Bool, true, false, Some, refl, ap, subst, arith, inl, inr}, lemmas.{Bool.{true≢false, false≢true}, Option.none-some}}
+use Rattle.exec_machine.specs.{declared.state.Waiting.{Waiting, Waiting as waiting}, Same.is_number, Tests.{is_empty, is_settled}, World.Common}
 use Rattle.exec_books.specs.Examples.{its_request}
-use Rattle.exec_settled.specs.{Examples.{waits_for}, Given.{IsSleptBy, IsWaitedFor, WaitsFor}}
-use Rattle.exec_settled.proofs.{AwaitedTasks.is_for_thing, TwoAsleep.each}
+use Rattle.exec_settled.{specs.{Examples.waits_for, Given.{IsSleptBy, IsWaitedFor, WaitsFor}}, proofs.{AwaitedTasks.is_for_thing, TwoAsleep.each}}
 use Rattle.exec_settled.proofs.examples.a_wait.Goals as goal
 
 abbrev s : Common

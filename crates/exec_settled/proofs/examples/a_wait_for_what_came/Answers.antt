@@ -1,9 +1,7 @@
-use Rattle.std.proofs.Common.{◌≡◌, Bool, true, false, refl, sym, ap, ◌∙◌, inl, inr}
-use Rattle.std.proofs.lemmas.Bool.{false≢true}
+use Rattle.std.proofs.{Common.{◌≡◌, Bool, true, false, refl, sym, ap, ◌∙◌, inl, inr}, lemmas.Bool.false≢true}
 use Rattle.exec_moves.specs.declared.place.Place.{Place}
 use Rattle.exec_rest.specs.{Examples.two_waiting, Rested.place_at}
-use Rattle.exec_settled.specs.{Awaited.IsAwaited, Examples.{sleeps_here, waits_elsewhere, waits_here}}
-use Rattle.exec_settled.proofs.TwoAsleep.{each}
+use Rattle.exec_settled.{specs.{Awaited.IsAwaited, Examples.{sleeps_here, waits_elsewhere, waits_here}}, proofs.TwoAsleep.each}
 use Rattle.exec_settled.proofs.examples.a_wait_for_what_came.Goals as goal
 
 abbrev is_busy : Place → Bool

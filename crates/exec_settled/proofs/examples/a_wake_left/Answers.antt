@@ -1,15 +1,10 @@
-use Rattle.std.proofs.Common.{◌≡◌, ℕ, true, false, [], ◌∷◌, None, refl, sym, ◌∙◌, ap, inl, inr}
-use Rattle.std.proofs.lemmas.{Bool.{true≢false, false≢true}, Option.none-some}
-use Rattle.std.specs.Prelude.{is_some}
-use Rattle.exec_machine.specs.{declared.config.Configuration.Configuration, Deadlines.new_sleeper, Tests.{is_empty, is_open}, World.{no_open, seat_of}}
-use Rattle.exec_machine.specs.declared.state.RequestPhase.TheVariants.{Resolved}
+use Rattle.std.{proofs.{Common.{◌≡◌, ℕ, true, false, [], ◌∷◌, None, refl, sym, ◌∙◌, ap, inl, inr}, lemmas.{Bool.{true≢false, false≢true}, Option.none-some}}, specs.Prelude.is_some}
+use Rattle.exec_machine.specs.{declared.{config.Configuration.Configuration, state.RequestPhase.TheVariants.Resolved}, Deadlines.new_sleeper, Tests.{is_empty, is_open}, World.{no_open, seat_of}}
 use Rattle.exec_outcomes.specs.declared.outcome.Outcome.TheVariants.{Success}
-use Rattle.exec_machine.specs.declared.state.TaskPhase.TheVariants as phase
 use Rattle.exec_moves.specs.{MailLogs.a_write, Seen.polls_at}
-use Rattle.exec_rest.specs.{Examples.{rested, two_waiting, with_a_latch, with_a_message, with_a_runnable}, Rested.{Someone, is_in_pool, place_at, sleeps}}
-use Rattle.exec_rest.proofs.TwoAsleep.{nobody, place}
-use Rattle.exec_settled.specs.{Examples.{its_root, sleeps_here, waits_here, with_permit, with_queue, with_root, with_sleeper, with_write}, Parked.{IsBeingWoken, IsHeldUp, IsParked, NobodySleepsOnWork}}
-use Rattle.exec_settled.proofs.TwoAsleep.{calls, each, undisturbed}
+use Rattle.exec_rest.{specs.{Examples.{rested, two_waiting, with_a_latch, with_a_message, with_a_runnable}, Rested.{Someone, is_in_pool, place_at, sleeps}}, proofs.TwoAsleep.{nobody, place}}
+use Rattle.exec_settled.{specs.{Examples.{its_root, sleeps_here, waits_here, with_permit, with_queue, with_root, with_sleeper, with_write}, Parked.{IsBeingWoken, IsHeldUp, IsParked, NobodySleepsOnWork}}, proofs.TwoAsleep.{calls, each, undisturbed}}
+use Rattle.exec_machine.specs.declared.state.TaskPhase.TheVariants as phase
 use Rattle.exec_settled.proofs.examples.a_wake_left.Goals as goal
 
 abbrev two : Configuration

@@ -1,5 +1,4 @@
-use Rattle.std.proofs.Common.{refl, ap}
-use Rattle.std.proofs.lemmas.Bool.{true≢false, false≢true}
+use Rattle.std.proofs.{Common.{refl, ap}, lemmas.Bool.{true≢false, false≢true}}
 use Rattle.exec_machine.specs.Tests.{is_empty}
 use Rattle.exec_settled.proofs.examples.left_undone.Goals as goal
 

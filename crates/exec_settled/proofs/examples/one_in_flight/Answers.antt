@@ -1,15 +1,9 @@
-use Rattle.std.proofs.Common.{◌≡◌, ℕ, zero, suc, ◌<◌, ◌||◌, Bool, true, false, [], None, unwrap_or, refl, sym, ap, subst, ◌∙◌, arith}
-use Rattle.std.proofs.lemmas.{Bool.{true≢false, false≢true}, Option.none-some}
-use Rattle.std.specs.Prelude.{slice_get}
-use Rattle.exec_machine.specs.{declared.{config.Configuration.Configuration, state.{Forwarding.Forwarding, Waiting.Waiting}}, Progress.{is_request_unfinished, is_runnable}, Tests.{is_closing, is_done, is_gated, is_landed, is_open, is_resolved, is_staged}, World.{Common, no_task, request_of, seat_of, task_of}}
-use Rattle.exec_machine.specs.declared.state.Waiting.TheVariants as waiting
+use Rattle.std.{proofs.{Common.{◌≡◌, ℕ, zero, suc, ◌<◌, ◌||◌, Bool, true, false, [], None, unwrap_or, refl, sym, ap, subst, ◌∙◌, arith}, lemmas.{Bool.{true≢false, false≢true}, Option.none-some}}, specs.Prelude.slice_get}
+use Rattle.exec_machine.specs.{declared.{config.Configuration.Configuration, state.{Forwarding.Forwarding, Waiting.{Waiting, Waiting as waiting}}}, Progress.{is_request_unfinished, is_runnable}, Tests.{is_closing, is_done, is_gated, is_landed, is_open, is_resolved, is_staged}, World.{Common, no_task, request_of, seat_of, task_of}}
 use Rattle.exec_moves.specs.{Call.no_call, Plays.desk_of, State.queue_of, Told.has_number}
-use Rattle.exec_books.specs.{Booked.AreLinedUp, Examples.{its_own, one_asleep, one_send}, Listed.AreListed}
-use Rattle.exec_books.proofs.Listed.{no_listed}
-use Rattle.exec_rest.proofs.First.{of_equal}
-use Rattle.exec_rest.specs.Rested.{sleeps}
-use Rattle.exec_settled.specs.{Given.{IsWaitedFor, WaitsFor}, Parked.{HasEnteredAll, HasNoneInHand, HasNothingToDo, IsHeldUp, IsParked}}
-use Rattle.exec_settled.proofs.AwaitedTasks.{is_for_thing}
+use Rattle.exec_books.{specs.{Booked.AreLinedUp, Examples.{its_own, one_asleep, one_send}, Listed.AreListed}, proofs.Listed.no_listed}
+use Rattle.exec_rest.{proofs.First.of_equal, specs.Rested.sleeps}
+use Rattle.exec_settled.{specs.{Given.{IsWaitedFor, WaitsFor}, Parked.{HasEnteredAll, HasNoneInHand, HasNothingToDo, IsHeldUp, IsParked}}, proofs.AwaitedTasks.is_for_thing}
 use Rattle.exec_settled.proofs.examples.one_in_flight.Goals as goal
 
 abbrev c : Configuration

@@ -1,15 +1,9 @@
-use Rattle.std.proofs.Common.{◌≡◌, ℕ, Bool, true, false, length, [], None, refl, sym, ap, ◌∙◌}
-use Rattle.std.proofs.lemmas.{Bool.{true≢false, false≢true}, Option.none-some}
-use Rattle.std.specs.Prelude.{slice_get}
-use Rattle.exec_machine.specs.{declared.state.{Forwarding.Forwarding, Next.Next, Waiting.Waiting}, Progress.{has_to_close, is_cancel_untold, is_task_unfinished, sleeps_for_nothing}, Tests.{is_closing, is_done, is_open}, World.{Common, open_of, own_of, seat_of, task_of}}
-use Rattle.exec_machine.specs.declared.state.Waiting.TheVariants as waiting
+use Rattle.std.{proofs.{Common.{◌≡◌, ℕ, Bool, true, false, length, [], None, refl, sym, ap, ◌∙◌}, lemmas.{Bool.{true≢false, false≢true}, Option.none-some}}, specs.Prelude.slice_get}
+use Rattle.exec_machine.specs.{declared.state.{Forwarding.Forwarding, Next.Next, Waiting.{Waiting, Waiting as waiting}}, Progress.{has_to_close, is_cancel_untold, is_task_unfinished, sleeps_for_nothing}, Tests.{is_closing, is_done, is_open}, World.{Common, open_of, own_of, seat_of, task_of}}
 use Rattle.exec_moves.specs.{Call.no_call, Plays.desk_of, Seen.{next_at, polls_at}, Slots.is_in_slots, State.gate_of}
-use Rattle.exec_rest.specs.{Examples.{rested, two_waiting}, Places.{is_abed, is_to_sleep_on_ring}, Rested.{is_latched, place_at}}
-use Rattle.exec_rest.proofs.{First.of_equal, TwoAsleep.{at_rest, queue}}
+use Rattle.exec_rest.{specs.{Examples.{rested, two_waiting}, Places.{is_abed, is_to_sleep_on_ring}, Rested.{is_latched, place_at}, AtRest.stays_closing}, proofs.{First.of_equal, TwoAsleep.{at_rest, queue}}}
 use Rattle.exec_books.specs.{Booked.AreLinedUp, Listed.AreListed}
-use Rattle.exec_settled.specs.{Awaited.IsAwaited, Permits.IsPermitted, Given.{IsGiven, WaitsFor, ends_in_search, in_line, passes_at}, Parked.{HasNoneInHand, HasNothingToDo}, Settled.{HasSubmitted, HasTold, ends_ring_wait}}
-use Rattle.exec_rest.specs.AtRest.{stays_closing}
-use Rattle.exec_settled.proofs.{AwaitedTasks.is_for_thing, TwoAsleep.{each, is_at, not_at}}
+use Rattle.exec_settled.{specs.{Awaited.IsAwaited, Permits.IsPermitted, Given.{IsGiven, WaitsFor, ends_in_search, in_line, passes_at}, Parked.{HasNoneInHand, HasNothingToDo}, Settled.{HasSubmitted, HasTold, ends_ring_wait}}, proofs.{AwaitedTasks.is_for_thing, TwoAsleep.{each, is_at, not_at}}}
 use Rattle.exec_settled.proofs.examples.two_at_rest.Goals as goal
 
 abbrev s : Common

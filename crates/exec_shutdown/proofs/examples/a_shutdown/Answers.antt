@@ -1,13 +1,10 @@
-use Rattle.std.proofs.Common.{◌≡◌, ℕ, zero, suc, false, refl, sym, ◌∙◌}
-use Rattle.std.proofs.lemmas.Bool.{true≢false, false≢true}
+use Rattle.std.proofs.{Common.{◌≡◌, ℕ, zero, suc, false, refl, sym, ◌∙◌}, lemmas.Bool.{true≢false, false≢true}}
 use Rattle.exec_outcomes.specs.declared.outcome.Outcome.TheVariants.{Success}
-use Rattle.exec_machine.specs.{Callers.is_held, Tests.{is_closing, is_flying}, World.{request_of, seat_of}}
-use Rattle.exec_machine.specs.declared.state.RequestPhase.TheVariants.{Resolved}
+use Rattle.exec_machine.specs.{Callers.is_held, Tests.{is_closing, is_flying}, World.{request_of, seat_of}, declared.state.RequestPhase.TheVariants.Resolved}
 use Rattle.exec_books.specs.Examples.{its_request}
 use Rattle.exec_rest.specs.Examples.{rested}
-use Rattle.exec_settled.specs.Examples.{closing_with}
+use Rattle.exec_settled.{specs.Examples.closing_with, proofs.TwoAsleep.each}
 use Rattle.exec_shutdown.specs.Shutdown.{ShutsDown}
-use Rattle.exec_settled.proofs.TwoAsleep.{each}
 use Rattle.exec_shutdown.proofs.examples.a_shutdown.Goals as goal
 
 none_closing : (i : ℕ) → is_closing (seat_of rested.world.common i).phase ≡ false

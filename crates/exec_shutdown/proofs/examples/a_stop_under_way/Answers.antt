@@ -1,7 +1,5 @@
-use Rattle.std.proofs.Common.{◌≡◌, ◌≢◌, ℕ, zero, suc, ◌<◌, Bool, true, false, not, ◌&&◌, ◌||◌, [], None, refl, sym, ap, ◌∙◌, arith}
-use Rattle.std.proofs.lemmas.Bool.{true≢false, false≢true}
-use Rattle.exec_machine.specs.{declared.state.Code.Code, Callers.is_held, Closing.own_after_stop, Mail.has_root_message, Same.is_none, Tasks.{new_own, new_seat}, Tests.{has_ended, is_awake, is_done, is_empty, is_open, is_settled}, World.{World, own_of, seat_of, task_of}}
-use Rattle.exec_machine.specs.declared.state.Next.TheVariants as next
+use Rattle.std.proofs.{Common.{◌≡◌, ◌≢◌, ℕ, zero, suc, ◌<◌, Bool, true, false, not, ◌&&◌, ◌||◌, [], None, refl, sym, ap, ◌∙◌, arith}, lemmas.Bool.{true≢false, false≢true}}
+use Rattle.exec_machine.specs.{declared.state.{Code.Code, Next.Next as next}, Callers.is_held, Closing.own_after_stop, Mail.has_root_message, Same.is_none, Tasks.{new_own, new_seat}, Tests.{has_ended, is_awake, is_done, is_empty, is_open, is_settled}, World.{World, own_of, seat_of, task_of}}
 use Rattle.exec_shutdown.specs.{Examples.{stopped_with, two, waiting_root}, Stopping.{StopsAll, WaitsForStop, is_waiting, owes_root}}
 use Rattle.exec_shutdown.proofs.examples.a_stop_under_way.Goals as goal
 

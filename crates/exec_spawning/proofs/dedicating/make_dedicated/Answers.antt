@@ -1,10 +1,8 @@
 use Rattle.std.proofs.{Common.{◌≡◌, ℕ, ◌++◌, ◌∷◌, [], length, Some, None, false, refl, sym, ap, subst, ◌∙◌, arith}, lemmas.{Bool.Decides.nat_tests, List.length-append}}
-use Rattle.exec_base.specs.declared.task_no.TaskNo.{TaskNo}
-use Rattle.exec_base.specs.declared.one_shot.OneShotState.TheVariants as shot
-use Rattle.exec_task.specs.{Phases.runnable_of, declared.{runnable.Runnable.Runnable, task.Phase.TheVariants.Queued}}
-use Rattle.exec_task.specs.declared.body.Said.TheVariants as said
-use Rattle.exec_machine.specs.declared.state.Waiting.TheVariants as waiting
+use Rattle.exec_base.specs.declared.{task_no.TaskNo.TaskNo, one_shot.OneShotState.OneShotState as shot}
+use Rattle.exec_task.specs.{Phases.runnable_of, declared.{runnable.Runnable.Runnable, task.Phase.TheVariants.Queued, body.Said.Said as said}}
 use Rattle.exec_parts.specs.{Dedicated.{Begins, root_slot}, declared.parts.{role.Role.TheVariants.Dedicated, task_slot.TaskSlot.TaskSlot}}
+use Rattle.exec_machine.specs.declared.state.Waiting.TheVariants as waiting
 use Rattle.exec_spawning.proofs.dedicating.make_dedicated.Goals as goal
 
 root_is : {B : Type 0} (x : TaskSlot B) (number : TaskNo) (owner owner' i i' : ℕ) (body : B) → x.cell ≡ record { number = number; owner = owner; phase = Queued body; cancelled = false } → owner ≡ owner' → i ≡ i'

@@ -1,7 +1,6 @@
 use Rattle.std.proofs.Common.{refl, arith}
-use Rattle.exec_moves.specs.{declared.idling.{InLook.InLook}, declared.place.{Place.Place}}
-use Rattle.exec_invariants.proofs.Dedicated.{few_here}
-use Rattle.exec_invariants.proofs.NextDue.{told_due}
+use Rattle.exec_moves.specs.declared.{idling.InLook.InLook, place.Place.Place}
+use Rattle.exec_invariants.proofs.{Dedicated.few_here, NextDue.told_due}
 use Rattle.exec_steps.proofs.Looking.{claimed_returned, claimed_some, count_looked, head_looked, look_count_exchanged, look_count_returned, looks_some, mirror_looked, published, tail_looked}
 use Rattle.exec_steps.proofs.look.look.Goals as goal
 

@@ -1,6 +1,5 @@
 use Rattle.std.proofs.Common.{arith, refl}
-use Rattle.exec_invariants.proofs.Dedicated.{few_here, own_there}
-use Rattle.exec_invariants.proofs.PopLeads.{set_closed}
+use Rattle.exec_invariants.proofs.{Dedicated.{few_here, own_there}, PopLeads.set_closed}
 use Rattle.exec_steps.proofs.Popping.{alone_popped, pop_exchanged, pop_head_loaded, pop_stored}
 use Rattle.exec_steps.proofs.pop.pop.Goals as goal
 

@@ -1,8 +1,7 @@
 use Rattle.std.proofs.Common.{ap, arith, length, refl}
-use Rattle.exec_invariants.proofs.Dedicated.{own_there}
+use Rattle.exec_invariants.proofs.{Dedicated.own_there, Pushing.{flowed_over, oldest_stored, push_head_loaded, value_stored}}
 use Rattle.exec_moves.specs.declared.{handing.InPush.InPush, place.Place.Place}
 use Rattle.exec_steps.proofs.CallNext.{push_next}
-use Rattle.exec_invariants.proofs.Pushing.{flowed_over, oldest_stored, push_head_loaded, value_stored}
 use Rattle.exec_steps.proofs.push.push.Goals as goal
 
 pub load_push_head-requires : goal.load_push_head-requires

@@ -1,8 +1,7 @@
 use Rattle.std.proofs.Common.{arith, refl}
 use Rattle.exec_moves.specs.declared.{handing.InGlobal.InGlobal, place.Place.Place}
-use Rattle.exec_steps.proofs.CallNext.{push_next}
+use Rattle.exec_steps.proofs.{CallNext.push_next, Reserving.{global_count_added, global_count_returned, global_set_loaded, global_some}}
 use Rattle.exec_invariants.proofs.{Appending.{all_fit, appended}, Counting.count_fits}
-use Rattle.exec_steps.proofs.Reserving.{global_count_added, global_count_returned, global_set_loaded, global_some}
 use Rattle.exec_steps.proofs.push.push_global.Goals as goal
 
 pub returns-in-LoadGlobalSet : goal.returns-in-LoadGlobalSet

@@ -1,8 +1,7 @@
 use Rattle.std.proofs.{Common.{◌≡◌, refl, subst, arith}, lemmas.Grind.common_steps}
 use Rattle.exec_moves.specs.declared.place.Place.{Place}
-use Rattle.exec_invariants.proofs.Dedicated.{few_here}
+use Rattle.exec_invariants.{proofs.{Dedicated.few_here, Flagging.root_flag_taken, Still.steps_none, Kicking.{leaves_some, search_left, worker_claimed}, NextDue.told_due}, specs.Sound.SoundAt}
 use Rattle.exec_parts.specs.declared.parts.{shared.Shared.Shared, worker.Worker.Worker}
-use Rattle.exec_invariants.{specs.Sound.SoundAt, proofs.{Flagging.root_flag_taken, Still.steps_none, Kicking.{leaves_some, search_left, worker_claimed}, NextDue.told_due}}
 use Rattle.exec_steps.proofs.{Picks.turn_begun, Looking.{clock_read, tested, withdrew}, LettersMay.letter_may, SendLetters.letter_sent}
 use Rattle.exec_steps.proofs.step.step.Goals as goal
 

@@ -1,7 +1,5 @@
-use Rattle.std.proofs.Common.{◌≡◌, [], ◌∷◌, ap, ◌∙◌, refl, arith}
-use Rattle.std.proofs.lemmas.Result.{err_from_is_err_and}
-use Rattle.exec_text.specs.Reading.{said_before, header}
-use Rattle.exec_text.proofs.{Said.said_first, Headers.{spin_fits, pushed}, Faults.header_stuck}
+use Rattle.std.proofs.{Common.{◌≡◌, [], ◌∷◌, ap, ◌∙◌, refl, arith}, lemmas.Result.err_from_is_err_and}
+use Rattle.exec_text.{specs.Reading.{said_before, header}, proofs.{Said.said_first, Headers.{spin_fits, pushed}, Faults.header_stuck}}
 use Rattle.exec_text.proofs.header.read_header.Goals as goal
 
 pub returns-in_err-read_value-clause-fault : goal.returns-in_err-read_value-clause-fault

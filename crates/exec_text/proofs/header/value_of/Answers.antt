@@ -1,5 +1,4 @@
-use Rattle.std.proofs.Common.{◌∷◌, decimal, arith}
-use Rattle.std.proofs.lemmas.Slice.{first_rest}
+use Rattle.std.proofs.{Common.{◌∷◌, decimal, arith}, lemmas.Slice.first_rest}
 use Rattle.exec_text.proofs.Fields.{stripped, unstripped, some_then}
 use Rattle.exec_text.proofs.header.value_of.Goals as goal
 

@@ -1,5 +1,4 @@
-use Rattle.std.proofs.Common.{codes}
-use Rattle.std.proofs.lemmas.Result.{err_from_is_err_and}
+use Rattle.std.proofs.{Common.codes, lemmas.Result.err_from_is_err_and}
 use Rattle.exec_text.proofs.{Fields.told_other, Faults.{mark_missing, mark_wrong}}
 use Rattle.exec_text.proofs.read.read_mark.Goals as goal
 

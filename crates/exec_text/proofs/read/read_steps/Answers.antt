@@ -1,8 +1,5 @@
-use Rattle.std.proofs.Common.{◌∷◌, [], ◌++◌, refl, sym, ◌∙◌}
-use Rattle.std.proofs.lemmas.List.{append-nil}
-use Rattle.std.proofs.lemmas.List.Elements.{All-push}
-use Rattle.exec_text.specs.Grammar.{StepFits, StepNames}
-use Rattle.exec_text.proofs.{Begins.All-nil, Faults.{step_wrong, step_right, steps_all}}
+use Rattle.std.proofs.{Common.{◌∷◌, [], ◌++◌, refl, sym, ◌∙◌}, lemmas.List.{append-nil, Elements.All-push}}
+use Rattle.exec_text.{specs.Grammar.{StepFits, StepNames}, proofs.{Begins.All-nil, Faults.{step_wrong, step_right, steps_all}}}
 use Rattle.exec_text.proofs.read.read_steps.Goals as goal
 
 pub loop-line-init : goal.loop-line-init

@@ -1,5 +1,4 @@
-use Rattle.std.proofs.Common.{◌≡◌, ◌++◌, ◌-◌, All, List, length, map}
-use Rattle.std.specs.Str.Lines.{lines}
+use Rattle.std.{proofs.Common.{◌≡◌, ◌++◌, ◌-◌, All, List, length, map}, specs.Str.Lines.lines}
 use Rattle.exec_machine.specs.declared.step.Step.{Step}
 use Rattle.exec_text.specs.{Grammar.{text_of_step, StepFits, StepNames}, Kept.Keeps, Reading.said_before}
 use Rattle.exec_text.proofs.read.read_steps.Given as goal

@@ -1,7 +1,5 @@
-use Rattle.std.proofs.Common.{◌≡◌, ℕ, List, ◌∙◌, subst}
-use Rattle.std.proofs.lemmas.Result.{err_from_is_err_and}
-use Rattle.exec_text.specs.Grammar.{IsFirstFault, ScriptsThatCount}
-use Rattle.exec_text.proofs.{Begins.meaning_from, Faults.spelled_trace, Lists.{kept_whole, lists_whole}}
+use Rattle.std.proofs.{Common.{◌≡◌, ℕ, List, ◌∙◌, subst}, lemmas.Result.err_from_is_err_and}
+use Rattle.exec_text.{specs.Grammar.{IsFirstFault, ScriptsThatCount}, proofs.{Begins.meaning_from, Faults.spelled_trace, Lists.{kept_whole, lists_whole}}}
 use Rattle.exec_text.proofs.read.read_trace.Goals as goal
 
 pub returns-in_err-config-clause-unread : goal.returns-in_err-config-clause-unread

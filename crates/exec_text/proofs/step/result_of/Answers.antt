@@ -1,5 +1,4 @@
-use Rattle.std.proofs.Common.{arith}
-use Rattle.std.proofs.lemmas.Slice.{first_rest}
+use Rattle.std.proofs.{Common.arith, lemmas.Slice.first_rest}
 use Rattle.exec_text.proofs.Steps.{errno_none}
 use Rattle.exec_text.proofs.step.result_of.Goals as goal
 

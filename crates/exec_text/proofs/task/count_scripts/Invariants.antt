@@ -1,7 +1,5 @@
-use Rattle.std.proofs.Common.{◌≡◌, ◌≤◌, ◌-◌, length}
-use Rattle.std.specs.Str.Lines.{lines}
-use Rattle.exec_text.specs.Reading.{said_before}
-use Rattle.exec_text.proofs.Tasks.{HasScripts}
+use Rattle.std.{proofs.Common.{◌≡◌, ◌≤◌, ◌-◌, length}, specs.Str.Lines.lines}
+use Rattle.exec_text.{specs.Reading.said_before, proofs.Tasks.HasScripts}
 use Rattle.exec_text.proofs.task.count_scripts.Given as goal
 
 abbrev pub invariant-loop-line : goal.invariant-loop-line

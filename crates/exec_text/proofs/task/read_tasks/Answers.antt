@@ -1,5 +1,4 @@
-use Rattle.std.proofs.Common.{◌∷◌, [], ◌++◌, refl, ◌∙◌}
-use Rattle.std.proofs.lemmas.Result.{err_from_is_err_and}
+use Rattle.std.proofs.{Common.{◌∷◌, [], ◌++◌, refl, ◌∙◌}, lemmas.Result.err_from_is_err_and}
 use Rattle.exec_text.proofs.{Begins.head_none, Faults.{task_missing, task_wrong, script_right}, Lists.no_lists}
 use Rattle.exec_text.proofs.task.read_tasks.Goals as goal
 

@@ -1,5 +1,4 @@
-use Rattle.std.proofs.Common.{◌≡◌, ◌-◌, List, length}
-use Rattle.std.specs.Str.Lines.{lines}
+use Rattle.std.{proofs.Common.{◌≡◌, ◌-◌, List, length}, specs.Str.Lines.lines}
 use Rattle.exec_machine.specs.declared.config.ScriptWord.{ScriptWord}
 use Rattle.exec_text.specs.{Kept.KeepsLists, Reading.{said_before, IsHead}}
 use Rattle.exec_text.proofs.task.read_tasks.Given as goal

@@ -1,6 +1,5 @@
 use Rattle.std.proofs.Common.{refl, length, ap, arith}
-use Rattle.exec_text.specs.Kept.{Keeps}
-use Rattle.exec_text.proofs.{Words.{line_fields, line_some, line_read, line_unread}, Fields.{told_same, told_other, told_some, told_none}, word.words_in.Goals.{then-ne-via-then-ne, then-ne-via-else-ne+then-is_empty}}
+use Rattle.exec_text.{specs.Kept.Keeps, proofs.{Words.{line_fields, line_some, line_read, line_unread}, Fields.{told_same, told_other, told_some, told_none}, word.words_in.Goals.{then-ne-via-then-ne, then-ne-via-else-ne+then-is_empty}}}
 use Rattle.exec_text.proofs.word.words_in.Goals as goal
 
 pub returns-then-ne-clause-none : goal.returns-then-ne-clause-none

@@ -1,5 +1,4 @@
-use Rattle.std.proofs.Common.{◌∷◌, [], ◌++◌, refl, sym, ◌∙◌, arith}
-use Rattle.std.proofs.lemmas.List.{append-nil}
+use Rattle.std.proofs.{Common.{◌∷◌, [], ◌++◌, refl, sym, ◌∙◌, arith}, lemmas.List.append-nil}
 use Rattle.exec_text.proofs.{Fields.{told_some, told_none}, Words.{words_past, words_more, no_words, not_named, push_right, none_right}}
 use Rattle.exec_text.proofs.word.words_of.Goals as goal
 

@@ -1,7 +1,6 @@
 use Rattle.std.proofs.Common.{◌≡◌, ◌++◌, List, length}
 use Rattle.exec_machine.specs.declared.config.ScriptWord.{ScriptWord}
-use Rattle.exec_text.specs.{Grammar.text_of_words, Kept.Keeps, Reading.AllRight}
-use Rattle.exec_text.proofs.Words.{HasWords}
+use Rattle.exec_text.{specs.{Grammar.text_of_words, Kept.Keeps, Reading.AllRight}, proofs.Words.HasWords}
 use Rattle.exec_text.proofs.word.words_of.Given as goal
 
 abbrev pub invariant-loop-rest : goal.invariant-loop-rest

@@ -1,5 +1,4 @@
-use Rattle.std.proofs.Common.{arith}
-use Rattle.std.proofs.lemmas.Grind.{common_steps}
+use Rattle.std.proofs.{Common.arith, lemmas.Grind.common_steps}
 use Rattle.exec_time.specs.Entries.{bucket_in}
 use Rattle.exec_time.proofs.entries.collect.Goals as goal
 

@@ -1,5 +1,4 @@
-use Rattle.std.proofs.Common.{◌≡◌, ◌≤◌, ◌+◌, ◌++◌, take, map}
-use Rattle.std.specs.VecDeque.{deque_len, deque_capacity}
+use Rattle.std.{proofs.Common.{◌≡◌, ◌≤◌, ◌+◌, ◌++◌, take, map}, specs.VecDeque.{deque_len, deque_capacity}}
 use Rattle.exec_time.proofs.entries.collect.Given as goal
 
 abbrev pub invariant-loop-entry : goal.invariant-loop-entry

@@ -1,5 +1,4 @@
-use Rattle.std.proofs.Common.{◌%◌, rules, not}
-use Rattle.std.proofs.lemmas.List.Kept.{IsNonDecreasingBy-filter}
+use Rattle.std.proofs.{Common.{◌%◌, rules, not}, lemmas.List.Kept.IsNonDecreasingBy-filter}
 use Rattle.exec_time.specs.{Entries.is_in_slot, declared.entries.Entry.Entry}
 use Rattle.exec_time.proofs.entries.discard.Goals as goal
 

@@ -1,5 +1,4 @@
-use Rattle.std.proofs.Common.{◌%◌, leb, leb-true, leb-false, arith, rules}
-use Rattle.std.proofs.lemmas.List.Sorted.{IsPartitionPoint-from_clause, IsPartitionedBy-leb}
+use Rattle.std.proofs.{Common.{◌%◌, leb, leb-true, leb-false, arith, rules}, lemmas.List.Sorted.{IsPartitionPoint-from_clause, IsPartitionedBy-leb}}
 use Rattle.exec_time.specs.declared.entries.Entry.{Entry}
 use Rattle.exec_time.proofs.entries.end_of.Goals as goal
 

@@ -1,8 +1,5 @@
-use Rattle.std.proofs.Common.{◌≡◌, ◌<◌, ◌≤◌, ◌-◌, ◌%◌, length, get_or, arith}
-use Rattle.std.proofs.lemmas.Grind.{common_steps}
-use Rattle.std.proofs.lemmas.List.{get_or_default}
-use Rattle.exec_time.specs.declared.entries.Entry.{Entry}
-use Rattle.exec_time.proofs.Buckets.{none_there}
+use Rattle.std.proofs.{Common.{◌≡◌, ◌<◌, ◌≤◌, ◌-◌, ◌%◌, length, get_or, arith}, lemmas.{Grind.common_steps, List.get_or_default}}
+use Rattle.exec_time.{specs.declared.entries.Entry.Entry, proofs.Buckets.none_there}
 use Rattle.exec_time.proofs.entries.is_reached.Goals as goal
 
 pub returns-in-Some : goal.returns-in-Some

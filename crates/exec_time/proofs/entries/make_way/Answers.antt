@@ -1,5 +1,4 @@
-use Rattle.std.proofs.Common.{arith}
-use Rattle.std.proofs.lemmas.Grind.{common_steps}
+use Rattle.std.proofs.{Common.arith, lemmas.Grind.common_steps}
 use Rattle.exec_time.proofs.Buckets.{bucket_in_discard}
 use Rattle.exec_time.proofs.entries.make_way.Goals as goal
 

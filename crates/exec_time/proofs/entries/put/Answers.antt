@@ -1,7 +1,5 @@
-use Rattle.std.proofs.Common.{◌<◌, ◌≤◌, ◌%◌, ℕ, length, get_or, arith}
-use Rattle.std.proofs.lemmas.List.Sorted.{IsNonDecreasingBy-insert}
-use Rattle.exec_time.specs.declared.entries.Entry.{Entry}
-use Rattle.exec_time.proofs.Buckets.{bucket_in_put}
+use Rattle.std.proofs.{Common.{◌<◌, ◌≤◌, ◌%◌, ℕ, length, get_or, arith}, lemmas.List.Sorted.IsNonDecreasingBy-insert}
+use Rattle.exec_time.{specs.declared.entries.Entry.Entry, proofs.Buckets.bucket_in_put}
 use Rattle.exec_time.proofs.entries.put.Goals as goal
 
 pub returns-clause-buckets : goal.returns-clause-buckets

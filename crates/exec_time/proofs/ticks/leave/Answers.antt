@@ -1,6 +1,4 @@
-use Rattle.std.proofs.Common.{◌≡◌, ◌<◌, arith, subst, OnSome}
-use Rattle.std.specs.List.{remove}
-use Rattle.std.specs.VecDeque.{deque_len}
+use Rattle.std.{proofs.Common.{◌≡◌, ◌<◌, arith, subst, OnSome}, specs.{List.remove, VecDeque.deque_len}}
 use Rattle.exec_time.proofs.Buckets.{active_in_remove, rising_remove}
 use Rattle.exec_time.proofs.ticks.leave.Goals as goal
 

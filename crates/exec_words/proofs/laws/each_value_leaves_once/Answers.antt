@@ -1,6 +1,5 @@
 use Rattle.std.proofs.Common.{◌++◌, arith}
-use Rattle.exec_words.specs.QueueRuns.{begun, after_all}
-use Rattle.exec_words.proofs.Runs.{runs_split, count_append}
+use Rattle.exec_words.{specs.QueueRuns.{begun, after_all}, proofs.Runs.{runs_split, count_append}}
 use Rattle.exec_words.proofs.laws.each_value_leaves_once.Goals as goal
 
 pub returns : goal.returns

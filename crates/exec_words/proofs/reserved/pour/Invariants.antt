@@ -1,5 +1,4 @@
-use Rattle.std.proofs.Common.{◌≡◌, ◌++◌, take, drop}
-use Rattle.std.specs.VecDeque.{deque_capacity}
+use Rattle.std.{proofs.Common.{◌≡◌, ◌++◌, take, drop}, specs.VecDeque.deque_capacity}
 use Rattle.exec_words.proofs.reserved.pour.Given as goal
 
 abbrev pub invariant-loop-i : goal.invariant-loop-i

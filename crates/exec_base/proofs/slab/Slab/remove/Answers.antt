@@ -1,7 +1,5 @@
-use Rattle.std.proofs.{Common.{IsSome, arith, rules}, lemmas.Grind.common_steps}
-use Rattle.std.proofs.lemmas.List.{reverse-append}
-use Rattle.exec_base.specs.Slab.{value_at}
-use Rattle.exec_base.proofs.Slots.{IsLiveAt-from_value, read_live, IsLaidOut-free, IsLaidOut-retire}
+use Rattle.std.proofs.{Common.{IsSome, arith, rules}, lemmas.{Grind.common_steps, List.reverse-append}}
+use Rattle.exec_base.{specs.Slab.value_at, proofs.Slots.{IsLiveAt-from_value, read_live, IsLaidOut-free, IsLaidOut-retire}}
 use Rattle.exec_base.proofs.slab.Slab.remove.Goals as goal
 
 pub invariant_of-self : goal.invariant_of-self

@@ -1,7 +1,5 @@
-use Rattle.std.proofs.Common.{◌≡◌, ℕ, ◌-◌, List, length, take, drop, refl, sym, ap, ◌∙◌, arith, vec_len}
-use Rattle.std.proofs.lemmas.List.{take_rest}
-use Rattle.exec_bufs.specs.Buffers.{Buffer}
-use Rattle.exec_bufs.proofs.Windows.{drop-written}
+use Rattle.std.proofs.{Common.{◌≡◌, ℕ, ◌-◌, List, length, take, drop, refl, sym, ap, ◌∙◌, arith, vec_len}, lemmas.List.take_rest}
+use Rattle.exec_bufs.{specs.Buffers.Buffer, proofs.Windows.drop-written}
 use Rattle.exec_bufs.proofs.buf.IoBufMut.as_mut_slice.Goals as goal
 
 pub returns : goal.returns

@@ -1,6 +1,5 @@
 use Rattle.std.proofs.Common.{◌≡◌, ℕ, ◌+◌, ◌-◌, ◌≤◌, List, ◌++◌, length, take, replicate, ap, arith, ◌∙◌, vec_capacity}
-use Rattle.exec_bufs.specs.Buffers.{Buffer}
-use Rattle.exec_bufs.proofs.Windows.{drop-resized, if_ok}
+use Rattle.exec_bufs.{specs.Buffers.Buffer, proofs.Windows.{drop-resized, if_ok}}
 use Rattle.exec_bufs.proofs.buf.IoBufMut.set_len.Goals as goal
 
 pub returns : goal.returns

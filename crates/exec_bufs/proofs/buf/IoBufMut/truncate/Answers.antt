@@ -1,5 +1,4 @@
-use Rattle.std.proofs.Common.{ℕ, ◌-◌, List, ap}
-use Rattle.std.proofs.lemmas.List.{drop-take}
+use Rattle.std.proofs.{Common.{ℕ, ◌-◌, List, ap}, lemmas.List.drop-take}
 use Rattle.exec_bufs.specs.Buffers.{Buffer}
 use Rattle.exec_bufs.proofs.buf.IoBufMut.truncate.Goals as goal
 

@@ -1,5 +1,4 @@
-use Rattle.std.proofs.Common.{length, ap, sym, ◌∙◌}
-use Rattle.std.specs.List.{concat}
+use Rattle.std.{proofs.Common.{length, ap, sym, ◌∙◌}, specs.List.concat}
 use Rattle.exec_bufs.proofs.Chunks.{length-concat}
 use Rattle.exec_bufs.proofs.bufs.IoBufs.len.Goals as goal
 

@@ -1,5 +1,4 @@
-use Rattle.std.proofs.Common.{◌++◌, ap, ◌∙◌}
-use Rattle.std.specs.List.{concat}
+use Rattle.std.{proofs.Common.{◌++◌, ap, ◌∙◌}, specs.List.concat}
 use Rattle.exec_bufs.proofs.Chunks.{concat-push}
 use Rattle.exec_bufs.proofs.bufs.IoBufs.push.Goals as goal
 

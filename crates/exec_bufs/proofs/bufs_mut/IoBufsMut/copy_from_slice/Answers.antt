@@ -1,7 +1,5 @@
 use Rattle.std.proofs.Common.{◌≡◌, ◌++◌, ℕ, List, length, take, drop, ap, sym, ◌∙◌}
-use Rattle.exec_bufs.specs.Buffers.{Buffer, filled, room, cuts}
-use Rattle.exec_bufs.proofs.Windows.{refilled_is}
-use Rattle.exec_bufs.proofs.Poured.{filled-cuts, room-cuts, length-cuts}
+use Rattle.exec_bufs.{specs.Buffers.{Buffer, filled, room, cuts}, proofs.{Windows.refilled_is, Poured.{filled-cuts, room-cuts, length-cuts}}}
 use Rattle.exec_bufs.proofs.bufs_mut.IoBufsMut.copy_from_slice.Goals as goal
 
 -- the cuts after the call, as the vector that was lent has them

@@ -1,6 +1,5 @@
 use Rattle.std.proofs.Common.{length, ap, sym, ◌∙◌}
-use Rattle.exec_bufs.specs.Buffers.{bytes_of}
-use Rattle.exec_bufs.proofs.Poured.{length-bytes_of}
+use Rattle.exec_bufs.{specs.Buffers.bytes_of, proofs.Poured.length-bytes_of}
 use Rattle.exec_bufs.proofs.bufs_mut.IoBufsMut.len.Goals as goal
 
 pub returns-clause-bytes : goal.returns-clause-bytes

@@ -1,7 +1,5 @@
 use Rattle.std.proofs.Common.{◌≡◌, ◌++◌, ◌≤◌, ℕ, List, length, take, drop, ap, sym, ◌∙◌, arith}
-use Rattle.exec_bufs.specs.Buffers.{Buffer, filled, room, spread}
-use Rattle.exec_bufs.proofs.Windows.{refilled_is}
-use Rattle.exec_bufs.proofs.Poured.{filled-spread, room-spread, length-spread}
+use Rattle.exec_bufs.{specs.Buffers.{Buffer, filled, room, spread}, proofs.{Windows.refilled_is, Poured.{filled-spread, room-spread, length-spread}}}
 use Rattle.exec_bufs.proofs.bufs_mut.IoBufsMut.set_len.Goals as goal
 
 -- the chunks after the call, as the vector that was lent has them

@@ -52,7 +52,7 @@ returns-in-Spawn-clause-stands g c = spawn_stands g.B.Body.left g.B.Scripted.spo
 
 pub returns-in-Wake-clause-takes : goal.returns-in-Wake-clause-takes
 returns-in-Wake-clause-takes g c = λ p config performs.
-    rw c.in-Wake.is (called g.B.Body.left g.B.Scripted.spot (action.Wake c.in-Wake.caller c.in-Wake.task) c.in-Wake.caller p c.args.self.now c.wake.new.self c.wake.result c.requires.ready.1.stands config c.wake.ensures.calls refl refl (λ choice. refl) (λ choice may. may))
+    rw c.in-Wake.is (called g.B.Body.left g.B.Scripted.spot (action.Wake c.in-Wake.caller c.in-Wake.task) c.in-Wake.caller p c.args.self.now c.wake.new.self c.wake.result c.requires.ready.1.stands config c.wake.ensures.calls (λ choice. refl) refl refl (λ choice may. may))
 
 pub returns-in-Wake-clause-stands : goal.returns-in-Wake-clause-stands
 returns-in-Wake-clause-stands g c = call_stands g.B.Body.left g.B.Scripted.spot (action.Wake c.in-Wake.caller c.in-Wake.task) c.in-Wake.caller c.args.self.now c.wake.new.self c.wake.result c.requires.ready.1.stands c.requires.ready.1.unspent c.wake.ensures.calls
@@ -62,7 +62,7 @@ returns-in-Wake-clause-keeps g c = rw c.in-Wake.is (call_keeps g.B.Body.left g.B
 
 pub returns-in-GoOn-clause-takes : goal.returns-in-GoOn-clause-takes
 returns-in-GoOn-clause-takes g c = λ p config performs.
-    rw c.in-GoOn.is (called g.B.Body.left g.B.Scripted.spot (action.GoOn c.in-GoOn.caller) c.in-GoOn.caller p c.args.self.now c.go_on.new.self c.go_on.result c.requires.ready.1.stands config c.go_on.ensures.calls refl refl (λ choice. refl) (λ choice may. may))
+    rw c.in-GoOn.is (called g.B.Body.left g.B.Scripted.spot (action.GoOn c.in-GoOn.caller) c.in-GoOn.caller p c.args.self.now c.go_on.new.self c.go_on.result c.requires.ready.1.stands config c.go_on.ensures.calls (λ choice. refl) refl refl (λ choice may. may))
 
 pub returns-in-GoOn-clause-stands : goal.returns-in-GoOn-clause-stands
 returns-in-GoOn-clause-stands g c = call_stands g.B.Body.left g.B.Scripted.spot (action.GoOn c.in-GoOn.caller) c.in-GoOn.caller c.args.self.now c.go_on.new.self c.go_on.result c.requires.ready.1.stands c.requires.ready.1.unspent c.go_on.ensures.calls

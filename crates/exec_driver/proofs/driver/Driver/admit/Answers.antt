@@ -1,7 +1,6 @@
 use Rattle.std.proofs.Common.{sym, ap, ◌∙◌, arith}
 use Rattle.exec_waiters.specs.States.{gate_in}
-use Rattle.exec_driver.specs.{Driving.{Driving, seen, request_at}}
-use Rattle.exec_driver.proofs.{Admitting.{on_ok, refused_over, given_back}, Arriving.placed_over, Keeping.{rooms_punctual, place_made}}
+use Rattle.exec_driver.{specs.Driving.{Driving, seen, request_at}, proofs.{Admitting.{on_ok, refused_over, given_back}, Arriving.placed_over, Keeping.{rooms_punctual, place_made}}}
 use Rattle.exec_opens.proofs.Lines.{placed_back, placed_there}
 use Rattle.exec_driver.proofs.driver.Driver.admit.Goals as goal
 

@@ -1,7 +1,6 @@
 use Rattle.std.proofs.Common.{◌≤◌, refl, arith}
 use Rattle.exec_time.specs.WheelView.{room_of}
-use Rattle.exec_driver.proofs.{Advancing.{held_on, advanced_punctual}, Punctual.{reach_of, turns_of}}
-use Rattle.exec_driver.specs.{Driving.seen, Sound.IsSound}
+use Rattle.exec_driver.{proofs.{Advancing.{held_on, advanced_punctual}, Punctual.{reach_of, turns_of}}, specs.{Driving.seen, Sound.IsSound}}
 use Rattle.exec_driver.proofs.driver.Driver.advance.Goals as goal
 
 pub invariant_of-self : goal.invariant_of-self

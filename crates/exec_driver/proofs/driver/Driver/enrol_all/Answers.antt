@@ -1,6 +1,5 @@
 use Rattle.std.proofs.Common.{◌≡◌, true, sym, ◌∙◌, rules}
-use Rattle.exec_driver.proofs.{Punctual.{settled, enrol_serves}, Serving.{serves_itself, serves_both}, Service.enrols_one}
-use Rattle.exec_driver.specs.Service.{NoStep, OneMore}
+use Rattle.exec_driver.{proofs.{Punctual.{settled, enrol_serves}, Serving.{serves_itself, serves_both}, Service.enrols_one}, specs.Service.{NoStep, OneMore}}
 use Rattle.exec_driver.proofs.driver.Driver.enrol_all.Goals as goal
 
 pub enrolments-init : goal.enrolments-init

@@ -1,5 +1,4 @@
-use Rattle.exec_driver.specs.Driving.{seen}
-use Rattle.exec_driver.proofs.{Serving.goes_by, Turns.enter_any}
+use Rattle.exec_driver.{specs.Driving.seen, proofs.{Serving.goes_by, Turns.enter_any}}
 use Rattle.exec_driver.proofs.driver.Driver.enter_if.Goals as goal
 
 pub returns-in-Taken-clause-going : goal.returns-in-Taken-clause-going

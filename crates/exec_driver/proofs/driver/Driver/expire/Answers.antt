@@ -1,6 +1,5 @@
 use Rattle.std.proofs.Common.{◌≡◌, Some, sym, ◌∙◌, refl}
-use Rattle.exec_driver.proofs.{Stepping.first_tells, Turns.expire_serves}
-use Rattle.exec_driver.specs.{Driving.seen, Sound.IsSound}
+use Rattle.exec_driver.{proofs.{Stepping.first_tells, Turns.expire_serves}, specs.{Driving.seen, Sound.IsSound}}
 use Rattle.exec_lists.specs.Lists.{first_of}
 use Rattle.exec_driver.proofs.driver.Driver.expire.Goals as goal
 

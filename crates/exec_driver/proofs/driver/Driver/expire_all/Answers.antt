@@ -1,6 +1,5 @@
 use Rattle.std.proofs.Common.{◌≡◌, true, sym, ◌∙◌, rules}
-use Rattle.exec_driver.proofs.{Serving.{serves_itself, serves_both}, Turns.expire_serves, Service.expires_one}
-use Rattle.exec_driver.specs.Service.{NoStep, OneMore}
+use Rattle.exec_driver.{proofs.{Serving.{serves_itself, serves_both}, Turns.expire_serves, Service.expires_one}, specs.Service.{NoStep, OneMore}}
 use Rattle.exec_driver.proofs.driver.Driver.expire_all.Goals as goal
 
 pub due-init : goal.due-init

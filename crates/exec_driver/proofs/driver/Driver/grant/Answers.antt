@@ -1,7 +1,6 @@
 use Rattle.std.proofs.Common.{◌≡◌, ℕ, Some, true, sym, ap, ◌∙◌, refl, rules}
-use Rattle.exec_driver.proofs.{Words.{with_permit, waiter_at, is_among}, Endings.{changed_is, one_changed}, Granting.{gated_there, held_permitted, held_granted, room_to_grant, same_some}, Keeping.punctual_one, Turns.grant_serves}
+use Rattle.exec_driver.{proofs.{Words.{with_permit, waiter_at, is_among}, Endings.{changed_is, one_changed}, Granting.{gated_there, held_permitted, held_granted, room_to_grant, same_some}, Keeping.punctual_one, Turns.grant_serves}, specs.{Driving.seen, Sound.IsSound}}
 use Rattle.exec_opens.specs.declared.opens.WaiterKey.{WaiterKey}
-use Rattle.exec_driver.specs.{Driving.seen, Sound.IsSound}
 use Rattle.exec_driver.proofs.driver.Driver.grant.Goals as goal
 
 pub acquire_durability-ended-requires : goal.acquire_durability-ended-requires

@@ -1,6 +1,5 @@
 use Rattle.std.proofs.Common.{◌+◌, None, sym, ◌∙◌, arith, rules}
-use Rattle.exec_driver.specs.{Driving.seen, Service.{NoGate, NextGate}}
-use Rattle.exec_driver.proofs.{Serving.{serves_itself, serves_both, done_itself, done_both}, Turns.{gate_from, added_tells}, Service.none_added}
+use Rattle.exec_driver.{specs.{Driving.seen, Service.{NoGate, NextGate}}, proofs.{Serving.{serves_itself, serves_both, done_itself, done_both}, Turns.{gate_from, added_tells}, Service.none_added}}
 use Rattle.exec_driver.proofs.driver.Driver.grant_all.Goals as goal
 
 pub gates-init : goal.gates-init

@@ -1,8 +1,7 @@
 use Rattle.std.proofs.Common.{◌≡◌, true, sym, ◌∙◌, arith}
 use Rattle.exec_base.specs.Slab.{value_at}
 use Rattle.exec_waiters.specs.Events.{asks_cancel_by_orphan}
-use Rattle.exec_driver.proofs.{Observing.held_orphaned, Telling.{tells_both, few_orphaned, room_left}, Keeping.{orphaned_punctual, let_go_punctual}}
-use Rattle.exec_driver.specs.Driving.{seen}
+use Rattle.exec_driver.{proofs.{Observing.held_orphaned, Telling.{tells_both, few_orphaned, room_left}, Keeping.{orphaned_punctual, let_go_punctual}}, specs.Driving.seen}
 use Rattle.exec_driver.proofs.driver.Driver.orphan.Goals as goal
 
 pub invariant_of-self : goal.invariant_of-self

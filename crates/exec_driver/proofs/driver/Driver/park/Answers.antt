@@ -1,7 +1,5 @@
-use Rattle.std.proofs.Common.{sym, ◌∙◌, rules, arith}
-use Rattle.std.proofs.lemmas.Bool.{false≢true}
-use Rattle.exec_driver.specs.Driving.{seen}
-use Rattle.exec_driver.proofs.{Keeping.way_punctual, Turns.{wait_pending, wait_calm, way_may}, Service.{waited, waits_by, waits_so, busy_found, pending_refused, may_after, signal_left, signal_out, may_pending, may_poll}}
+use Rattle.std.proofs.{Common.{sym, ◌∙◌, rules, arith}, lemmas.Bool.false≢true}
+use Rattle.exec_driver.{specs.Driving.seen, proofs.{Keeping.way_punctual, Turns.{wait_pending, wait_calm, way_may}, Service.{waited, waits_by, waits_so, busy_found, pending_refused, may_after, signal_left, signal_out, may_pending, may_poll}}}
 use Rattle.exec_driver.proofs.driver.Driver.park.Goals as goal
 
 pub returns-then-has_pending_submissions-clause-answer : goal.returns-then-has_pending_submissions-clause-answer

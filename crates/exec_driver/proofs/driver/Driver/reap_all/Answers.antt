@@ -1,5 +1,4 @@
-use Rattle.exec_driver.proofs.{Serving.{serves_itself, serves_both, done_itself, done_both}}
-use Rattle.exec_driver.specs.Service.{NoStep, OneMore}
+use Rattle.exec_driver.{proofs.Serving.{serves_itself, serves_both, done_itself, done_both}, specs.Service.{NoStep, OneMore}}
 use Rattle.exec_driver.proofs.driver.Driver.reap_all.Goals as goal
 
 pub completions-init : goal.completions-init

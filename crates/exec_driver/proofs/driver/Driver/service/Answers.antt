@@ -1,6 +1,5 @@
 use Rattle.std.proofs.Common.{arith}
-use Rattle.exec_driver.proofs.{Words.{not-true, and_parts}, Punctual.{settled, put_off}}
-use Rattle.exec_driver.specs.{Driving.seen, Service.reached}
+use Rattle.exec_driver.{proofs.{Words.{not-true, and_parts}, Punctual.{settled, put_off}}, specs.{Driving.seen, Service.reached}}
 use Rattle.exec_driver.proofs.driver.Driver.service.Goals as goal
 
 pub advance-requires : goal.advance-requires

@@ -1,6 +1,5 @@
 use Rattle.std.proofs.Common.{◌≡◌, Some, sym, ap, ◌∙◌, refl, arith}
-use Rattle.exec_driver.proofs.{Words.{waiter_at, file_of, file_in, account_in, request_at, is_queued, first_of}, Stepping.{first_there, held_staged, place_for_request, permit_same, relanded}, Windows.{has_its_own, asked_same, deadline_same}, Serving.keeps_punctual, Turns.stage_serves}
-use Rattle.exec_driver.specs.Driving.{seen}
+use Rattle.exec_driver.{proofs.{Words.{waiter_at, file_of, file_in, account_in, request_at, is_queued, first_of}, Stepping.{first_there, held_staged, place_for_request, permit_same, relanded}, Windows.{has_its_own, asked_same, deadline_same}, Serving.keeps_punctual, Turns.stage_serves}, specs.Driving.seen}
 use Rattle.exec_driver.proofs.driver.Driver.stage.Goals as goal
 
 pub stage-requires-clause-place : goal.stage-requires-clause-place

@@ -1,6 +1,5 @@
 use Rattle.std.proofs.Common.{◌≡◌, true, sym, ◌∙◌, rules, arith}
-use Rattle.exec_driver.specs.{Driving.seen, Service.{NoStep, OneMore, Enter, Busy}}
-use Rattle.exec_driver.proofs.{Entering.{taken_answer, busy_answer}, Serving.{goes_itself, goes_both, goes_by, done_itself, done_both}, Turns.{enter_any, filled_less, not_full}, Service.repeats_both}
+use Rattle.exec_driver.{specs.{Driving.seen, Service.{NoStep, OneMore, Enter, Busy}}, proofs.{Entering.{taken_answer, busy_answer}, Serving.{goes_itself, goes_both, goes_by, done_itself, done_both}, Turns.{enter_any, filled_less, not_full}, Service.repeats_both}}
 use Rattle.exec_driver.proofs.driver.Driver.stage_all.Goals as goal
 
 pub queues-init : goal.queues-init

@@ -1,9 +1,7 @@
-use Rattle.std.proofs.Common.{◌≡◌, true, rules}
-use Rattle.std.specs.Prelude.{is_none}
+use Rattle.std.{proofs.Common.{◌≡◌, true, rules}, specs.Prelude.is_none}
 use Rattle.exec_waiters.specs.States.{file_of}
-use Rattle.exec_driver.specs.Driving.{seen}
+use Rattle.exec_driver.{specs.Driving.seen, proofs.{Serving.goes_by, Turns.stage_none, Service.{cancel_entry, request_entry}}}
 use Rattle.exec_opens.specs.Opens.{account_in}
-use Rattle.exec_driver.proofs.{Serving.goes_by, Turns.stage_none, Service.{cancel_entry, request_entry}}
 use Rattle.exec_driver.proofs.driver.Driver.stage_one.Goals as goal
 
 pub returns-then-is_none : goal.returns-then-is_none

@@ -1,7 +1,5 @@
-use Rattle.std.proofs.Common.{sym, ◌∙◌, arith}
-use Rattle.std.proofs.lemmas.Bool.{false≢true}
-use Rattle.exec_driver.specs.{Service.{NoStep, OneMore}}
-use Rattle.exec_driver.proofs.{Serving.{goes_itself, goes_both, done_itself, done_both}, Service.{poll_entry}}
+use Rattle.std.proofs.{Common.{sym, ◌∙◌, arith}, lemmas.Bool.false≢true}
+use Rattle.exec_driver.{specs.Service.{NoStep, OneMore}, proofs.{Serving.{goes_itself, goes_both, done_itself, done_both}, Service.poll_entry}}
 use Rattle.exec_driver.proofs.driver.Driver.stage_some.Goals as goal
 
 pub entries-init : goal.entries-init

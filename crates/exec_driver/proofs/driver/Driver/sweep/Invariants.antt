@@ -1,5 +1,4 @@
-use Rattle.exec_driver.specs.{Driving.seen, Turns.waiting}
-use Rattle.exec_driver.proofs.Sweeping.{SweepsAlike}
+use Rattle.exec_driver.{specs.{Driving.seen, Turns.waiting}, proofs.Sweeping.SweepsAlike}
 use Rattle.exec_driver.proofs.driver.Driver.sweep.Given as goal
 
 abbrev pub invariant-controls : goal.invariant-controls

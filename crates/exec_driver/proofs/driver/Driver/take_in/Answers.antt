@@ -1,11 +1,9 @@
-use Rattle.std.proofs.Common.{◌≡◌, ℕ, ◌+◌, ◌*◌, ◌^◌, ◌<◌, true, Option, Some, None, refl, sym, ap, ◌∙◌, inr, arith}
-use Rattle.std.specs.Prelude.{is_some}
+use Rattle.std.{proofs.Common.{◌≡◌, ℕ, ◌+◌, ◌*◌, ◌^◌, ◌<◌, true, Option, Some, None, refl, sym, ap, ◌∙◌, inr, arith}, specs.Prelude.is_some}
 use Rattle.exec_base.specs.Slab.{live_count}
 use Rattle.exec_request.specs.Requests.{deadline_of, gate_of}
 use Rattle.exec_time.specs.WheelView.{wheel_of, room_of}
 use Rattle.exec_waiters.specs.{States.{deadline_in, gate_in}, Told.nothing_told}
-use Rattle.exec_driver.specs.{Driving.{Driving, seen, request_at, is_queued, is_gated, is_unenrolled}, Steps.{newcomer, is_late, timed_out}}
-use Rattle.exec_driver.proofs.{Admitting.{on_ok, refused_over, turned_down}, Arriving.{Arrives, ready_of, one_arrived, live_arrived, live_finished, takes_over, takes_finished, joins_none, joins_put, durable_gated, put_few, put_room, is_refused, placed_over, room_to_join, held_arrived}, Telling.{tells_both, room_left, room_within, few_finished}, Endings.one_finished, Keeping.{rooms_punctual, punctual_one, ended_punctual}}
+use Rattle.exec_driver.{specs.{Driving.{Driving, seen, request_at, is_queued, is_gated, is_unenrolled}, Steps.{newcomer, is_late, timed_out}}, proofs.{Admitting.{on_ok, refused_over, turned_down}, Arriving.{Arrives, ready_of, one_arrived, live_arrived, live_finished, takes_over, takes_finished, joins_none, joins_put, durable_gated, put_few, put_room, is_refused, placed_over, room_to_join, held_arrived}, Telling.{tells_both, room_left, room_within, few_finished}, Endings.one_finished, Keeping.{rooms_punctual, punctual_one, ended_punctual}}}
 use Rattle.exec_driver.proofs.driver.Driver.take_in.Goals as goal
 
 pub invariant_of-self-then-is_late : goal.invariant_of-self-then-is_late

@@ -1,5 +1,5 @@
 use Rattle.std.proofs.Common.{arith}
-use Rattle.exec_lists.proofs.Slots.{counted_longer, within_more}
+use Rattle.exec_lists.proofs.Names.{counted_longer, within_more}
 use Rattle.exec_lists.proofs.name_list.NameList.make_room.Goals as goal
 
 pub invariant_of-self-then-len-count : goal.invariant_of-self-then-len-count

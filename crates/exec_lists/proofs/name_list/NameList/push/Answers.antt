@@ -1,5 +1,5 @@
 use Rattle.std.proofs.Common.{◌+◌, ◌<◌, length, length-set, ap, ◌∙◌, sym, arith}
-use Rattle.exec_lists.proofs.Slots.{within_push, in_slot_within, read_count, counted_set, counted_beyond, pushed_here, pushed_elsewhere}
+use Rattle.exec_lists.proofs.Names.{within_push, in_slot_within, read_count, counted_set, counted_beyond, pushed_here, pushed_elsewhere}
 use Rattle.exec_lists.proofs.name_list.NameList.push.Goals as goal
 
 pub overflow_add-index_mut : goal.overflow_add-index_mut

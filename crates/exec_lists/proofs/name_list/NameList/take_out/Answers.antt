@@ -1,9 +1,6 @@
 use Rattle.std.proofs.Common.{◌≡◌, ◌+◌, ◌-◌, ◌<◌, ◌≤◌, length, length-set, sym, refl, arith}
-use Rattle.exec_lists.specs.NameList.{in_slot}
-use Rattle.exec_lists.proofs.Shifts.{unchanged}
-use Rattle.exec_lists.proofs.Slots.{within_without, read_count, counted_set, counted_beyond, in_slot_without, in_other_slot}
+use Rattle.exec_lists.{specs.Lists.in_slot, proofs.Names.{unchanged, within_without, read_count, counted_set, counted_beyond, in_slot_without, in_other_slot, fewer_without}}
 use Rattle.exec_lists.proofs.name_list.NameList.take_out.Goals as goal
-use Rattle.exec_lists.proofs.Names.{fewer_without}
 
 pub returns-then-not-may_have-clause-names : goal.returns-then-not-may_have-clause-names
 returns-then-not-may_have-clause-names c = sym (unchanged c.args.id c.args.self.now.names.items (c.if-not-may_have.ensures refl))

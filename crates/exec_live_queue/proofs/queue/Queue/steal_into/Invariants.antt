@@ -1,5 +1,4 @@
-use Rattle.exec_live_queue.proofs.{Words.{◌≡◌, []}, Tries.Tried}
-use Rattle.exec_live_queue.specs.Kinds.{IsThief, handed, theft}
+use Rattle.exec_live_queue.{proofs.{Words.{◌≡◌, []}, Tries.Tried}, specs.Kinds.{IsThief, handed, theft}}
 use Rattle.exec_live_queue.proofs.queue.Queue.steal_into.Given as goal
 
 abbrev pub invariant-tries : goal.invariant-tries

@@ -1,5 +1,4 @@
-use Rattle.std.proofs.Common.{◌≡◌}
-use Rattle.std.specs.Prelude.{replicate}
+use Rattle.std.{proofs.Common.◌≡◌, specs.Prelude.replicate}
 use Rattle.exec_opens.specs.Opens.{fresh_open}
 use Rattle.exec_opens.proofs.opens.Opens.new.Given as goal
 

@@ -1,5 +1,5 @@
 use Rattle.std.proofs.Common.{refl}
-use Rattle.exec_registration.proofs.Woken.{sleeper_wakes}
+use Rattle.exec_registration.proofs.Unheld.{sleeper_wakes}
 use Rattle.exec_registration.proofs.keys.TimerIdKey.refresh.Goals as goal
 
 pub returns-clause-wakes : goal.returns-clause-wakes

@@ -1,6 +1,6 @@
 use Rattle.std.proofs.Common.{refl, ap, ◌∙◌}
 use Rattle.exec_base.specs.Slab.{value_at}
-use Rattle.exec_registration.proofs.Woken.{request_wakes}
+use Rattle.exec_registration.proofs.Unheld.{request_wakes}
 use Rattle.exec_waiters.specs.{Events.seen_by, States.may_be_seen}
 use Rattle.exec_registration.proofs.keys.WaiterIdKey.refresh.Goals as goal
 

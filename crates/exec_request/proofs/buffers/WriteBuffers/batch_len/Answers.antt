@@ -1,12 +1,8 @@
-use Rattle.std.proofs.Common.{arith, ◌+◌, ◌==◌, ◌≤◌, ◌≡◌, true, [], length, take, subst, get_or}
-use Rattle.std.proofs.lemmas.Bool.{and_parts}
-use borrow.Author.Tests.{eqb-true}
+use Rattle.std.proofs.{Common.{arith, ◌+◌, ◌==◌, ◌≤◌, ◌≡◌, true, [], length, take, subst, get_or}, lemmas.Bool.and_parts}
 use Rattle.exec_bufs.specs.Buffers.{total}
-use Rattle.exec_request.specs.Buffers.{is_sound}
-use Rattle.exec_request.specs.declared.buffers.WriteBuffers.{WriteBuffers}
-use Rattle.exec_request.proofs.Chunks.{batch-left, batch-first, within-chunk}
+use Rattle.exec_request.{specs.{Buffers.is_sound, declared.buffers.WriteBuffers.WriteBuffers}, proofs.{Chunks.{batch-left, batch-first, within-chunk}, buffers.WriteBuffers.batch_len.Goals.{in-Single, in-Vectored}}}
+use borrow.Author.Tests.{eqb-true}
 use Rattle.exec_request.proofs.buffers.WriteBuffers.batch_len.Goals as goal
-use Rattle.exec_request.proofs.buffers.WriteBuffers.batch_len.Goals.{in-Single, in-Vectored}
 
 pub returns-clause-left : goal.returns-clause-left
 returns-clause-left c =

@@ -1,8 +1,5 @@
 use Rattle.std.proofs.Common.{◌≡◌, ◌≤◌, ◌+◌, ◌-◌, length, true, subst, arith}
-use Rattle.exec_request.specs.Buffers.{is_sound, batch_of}
-use Rattle.exec_request.specs.declared.buffers.WriteBuffers.{WriteBuffers}
-use Rattle.exec_request.specs.declared.buffers.WriteBuffers.TheVariants.{Vectored}
-use Rattle.exec_request.proofs.Moving.{part-fits, part-of-several, part-of-one}
+use Rattle.exec_request.{specs.{Buffers.{is_sound, batch_of}, declared.buffers.WriteBuffers.{WriteBuffers, TheVariants.Vectored}}, proofs.Moving.{part-fits, part-of-several, part-of-one}}
 use Rattle.exec_request.proofs.buffers.WriteBuffers.copy_batch.Goals as goal
 
 pub copy_chunks-requires : goal.copy_chunks-requires

@@ -1,14 +1,7 @@
-use Rattle.std.proofs.Common.{◌≡◌, ℕ, Bool, not, ◌&&◌, ap, ◌∙◌}
-use Rattle.std.proofs.lemmas.Bool.{and_parts}
+use Rattle.std.proofs.{Common.{◌≡◌, ℕ, Bool, not, ◌&&◌, ap, ◌∙◌}, lemmas.Bool.and_parts}
 use Rattle.exec_outcomes.specs.Outcomes.{Cursor, outcome_next, cursor_next, is_unsupported}
-use Rattle.exec_request.specs.States.{asks_cancel, as_answer}
-use Rattle.exec_request.specs.Hints.{asks_hint}
-use Rattle.exec_request.specs.Ways.{is_direct, is_switched}
-use Rattle.exec_request.specs.Judging.{judged_as}
-use Rattle.exec_request.specs.Views.{read_asked, read_cursor, read_hinted}
-use Rattle.exec_request.proofs.Judging.{judges, hint_left}
+use Rattle.exec_request.{specs.{States.{asks_cancel, as_answer}, Hints.asks_hint, Ways.{is_direct, is_switched}, Judging.judged_as, Views.{read_asked, read_cursor, read_hinted}}, proofs.Judging.{judges, hint_left, given_up}}
 use Rattle.exec_request.proofs.read_at.ReadAtRequest.on_cqe.Goals as goal
-use Rattle.exec_request.proofs.Judging.{given_up}
 
 pub returns-clause-judges : goal.returns-clause-judges
 returns-clause-judges c =

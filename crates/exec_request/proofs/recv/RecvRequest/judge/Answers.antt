@@ -1,9 +1,6 @@
 use Rattle.std.proofs.Common.{◌≡◌, ℕ, ◌-◌, ◌≤◌, Bool, true, false, sym, arith, if◌then◌else◌}
-use Rattle.exec_outcomes.specs.declared.outcome.Kind.TheVariants.{Fill, Recv}
-use Rattle.exec_outcomes.specs.declared.outcome.OpResult.{OpResult}
-use Rattle.exec_outcomes.specs.Outcomes.{outcome_next}
-use Rattle.exec_request.specs.Judging.{judged_alone}
-use Rattle.exec_request.proofs.Left.{outcome-left}
+use Rattle.exec_outcomes.specs.{declared.outcome.{Kind.TheVariants.{Fill, Recv}, OpResult.OpResult}, Outcomes.outcome_next}
+use Rattle.exec_request.{specs.Judging.judged_alone, proofs.Left.outcome-left}
 use Rattle.exec_request.proofs.recv.RecvRequest.judge.Goals as goal
 
 -- what is left of either kind of receive decides

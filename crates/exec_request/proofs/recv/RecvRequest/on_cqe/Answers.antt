@@ -1,11 +1,6 @@
 use Rattle.std.proofs.Common.{◌≡◌, ◌+◌, ◌-◌, ℕ, Bool, true, false, refl, sym, ap, ◌∙◌, arith, if◌then◌else◌}
-use Rattle.exec_outcomes.specs.declared.outcome.Judged.{Judged}
-use Rattle.exec_outcomes.specs.declared.outcome.Kind.TheVariants.{Recv, Fill}
-use Rattle.exec_outcomes.specs.Outcomes.{Cursor, Part, outcome_next, bytes_of, passes_on, moves_bytes}
-use Rattle.exec_request.specs.Judging.{judged_as}
-use Rattle.exec_request.specs.States.{as_answer}
-use Rattle.exec_request.specs.Views.{recv_asked, recv_cursor}
-use Rattle.exec_request.proofs.Judging.{judges, cursor_next-plain}
+use Rattle.exec_outcomes.specs.{declared.outcome.{Judged.Judged, Kind.TheVariants.{Recv, Fill}}, Outcomes.{Cursor, Part, outcome_next, bytes_of, passes_on, moves_bytes}}
+use Rattle.exec_request.{specs.{Judging.judged_as, States.as_answer, Views.{recv_asked, recv_cursor}}, proofs.Judging.{judges, cursor_next-plain}}
 use Rattle.exec_request.proofs.recv.RecvRequest.on_cqe.Goals as goal
 
 -- neither kind of receive has a second part, and both count bytes

@@ -1,10 +1,6 @@
 use Rattle.std.proofs.Common.{◌≡◌, ◌+◌, ℕ, false, refl, sym, ap, ◌∙◌}
 use Rattle.exec_outcomes.specs.Outcomes.{Cursor, outcome_next, bytes_of}
-use Rattle.exec_request.specs.Buffers.{moved_of}
-use Rattle.exec_request.specs.Judging.{judged_as}
-use Rattle.exec_request.specs.States.{as_answer}
-use Rattle.exec_request.specs.Views.{send_asked, send_cursor}
-use Rattle.exec_request.proofs.Judging.{judges, cursor_next-plain}
+use Rattle.exec_request.{specs.{Buffers.moved_of, Judging.judged_as, States.as_answer, Views.{send_asked, send_cursor}}, proofs.Judging.{judges, cursor_next-plain}}
 use Rattle.exec_request.proofs.send.SendRequest.on_cqe.Goals as goal
 
 pub returns-clause-judges : goal.returns-clause-judges

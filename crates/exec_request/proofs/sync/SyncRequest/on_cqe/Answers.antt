@@ -1,9 +1,6 @@
 use Rattle.std.proofs.Common.{false, refl, sym, ap, ◌∙◌}
-use Rattle.exec_request.specs.Judging.{judged_as, judged_alone}
-use Rattle.exec_request.specs.States.{as_answer}
-use Rattle.exec_request.specs.Views.{sync_asked, no_bytes}
-use Rattle.exec_outcomes.specs.declared.outcome.Kind.TheVariants as kind
-use Rattle.exec_request.proofs.Judging.{judges, cursor_next-plain}
+use Rattle.exec_request.{specs.{Judging.{judged_as, judged_alone}, States.as_answer, Views.{sync_asked, no_bytes}}, proofs.Judging.{judges, cursor_next-plain}}
+use Rattle.exec_outcomes.specs.declared.outcome.Kind.{Kind as kind}
 use Rattle.exec_request.proofs.sync.SyncRequest.on_cqe.Goals as goal
 
 pub returns : goal.returns

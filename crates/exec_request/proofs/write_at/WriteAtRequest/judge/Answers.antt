@@ -1,11 +1,6 @@
 use Rattle.std.proofs.Common.{◌≡◌, ℕ, Bool, false, ◌-◌, sym, ◌∙◌, arith, Option, if◌then◌else◌}
-use Rattle.exec_outcomes.specs.declared.outcome.Outcome.{Outcome}
-use Rattle.exec_outcomes.specs.declared.outcome.Kind.TheVariants.{Sync}
-use Rattle.exec_request.specs.Buffers.{length_of, moved_of}
-use Rattle.exec_request.specs.Hints.{asks_hint}
-use Rattle.exec_request.specs.Judging.{judged_alone}
-use Rattle.exec_request.specs.Syncing.{write_kind, is_syncing}
-use Rattle.exec_request.proofs.Left.{of_write}
+use Rattle.exec_outcomes.specs.declared.outcome.{Outcome.Outcome, Kind.TheVariants.Sync}
+use Rattle.exec_request.{specs.{Buffers.{length_of, moved_of}, Hints.asks_hint, Judging.judged_alone, Syncing.{write_kind, is_syncing}}, proofs.Left.of_write}
 use Rattle.exec_request.proofs.write_at.WriteAtRequest.judge.Goals as goal
 
 pub returns : goal.returns

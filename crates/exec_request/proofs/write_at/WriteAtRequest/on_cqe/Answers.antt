@@ -1,15 +1,7 @@
-use Rattle.std.proofs.Common.{◌≡◌, ℕ, Bool, not, ◌&&◌, ap, ◌∙◌, if◌then◌else◌}
-use Rattle.std.proofs.lemmas.Bool.{and_parts}
+use Rattle.std.proofs.{Common.{◌≡◌, ℕ, Bool, not, ◌&&◌, ap, ◌∙◌, if◌then◌else◌}, lemmas.Bool.and_parts}
 use Rattle.exec_outcomes.specs.Outcomes.{Cursor, outcome_next, cursor_next, is_unsupported}
-use Rattle.exec_request.specs.States.{asks_cancel, as_answer}
-use Rattle.exec_request.specs.Hints.{asks_hint}
-use Rattle.exec_request.specs.Buffers.{moved_of}
-use Rattle.exec_request.specs.Syncing.{is_syncing}
-use Rattle.exec_request.specs.Judging.{judged_as}
-use Rattle.exec_request.specs.Views.{write_asked, write_cursor, write_hinted}
-use Rattle.exec_request.proofs.Judging.{judges, hint_left}
+use Rattle.exec_request.{specs.{States.{asks_cancel, as_answer}, Hints.asks_hint, Buffers.moved_of, Syncing.is_syncing, Judging.judged_as, Views.{write_asked, write_cursor, write_hinted}}, proofs.Judging.{judges, hint_left, given_up}}
 use Rattle.exec_request.proofs.write_at.WriteAtRequest.on_cqe.Goals as goal
-use Rattle.exec_request.proofs.Judging.{given_up}
 
 pub returns-clause-judges : goal.returns-clause-judges
 returns-clause-judges c =

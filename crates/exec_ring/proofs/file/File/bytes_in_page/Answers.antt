@@ -1,10 +1,6 @@
-use Rattle.std.proofs.Common.{◌≡◌, ◌+◌, ◌<◌, ◌%◌, ◌∙◌, ap, sym, length, take, drop, arith}
-use Rattle.std.proofs.lemmas.List.{length-drop}
+use Rattle.std.proofs.{Common.{◌≡◌, ◌+◌, ◌<◌, ◌%◌, ◌∙◌, ap, sym, length, take, drop, arith}, lemmas.List.length-drop}
 use Rattle.exec_bufs.specs.Buffers.{resized}
-use Rattle.exec_ring.specs.Files.{byte_at, byte_in}
-use Rattle.exec_ring.proofs.Fillings.{resized-long, resized-cut, resized-none}
-use Rattle.exec_ring.proofs.Pages.{byte_at-page}
-use Rattle.exec_ring.proofs.Values.{values_from-part, values_from-zeros}
+use Rattle.exec_ring.{specs.Files.{byte_at, byte_in}, proofs.Stretches.{resized-long, resized-cut, resized-none, byte_at-page, values_from-part, values_from-zeros}}
 use Rattle.exec_ring.proofs.file.File.bytes_in_page.Goals as goal
 
 pub returns-in-Some-clause-bytes : goal.returns-in-Some-clause-bytes

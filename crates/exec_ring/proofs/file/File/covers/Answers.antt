@@ -1,5 +1,4 @@
-use Rattle.std.proofs.Common.{◌≡◌, ◌+◌, ◌-◌, ◌*◌, ◌/◌, ◌<◌, rules, arith}
-use Rattle.std.proofs.lemmas.Bool.{false≢true}
+use Rattle.std.proofs.{Common.{◌≡◌, ◌+◌, ◌-◌, ◌*◌, ◌/◌, ◌<◌, rules, arith}, lemmas.Bool.false≢true}
 use Rattle.exec_ring.specs.Files.{HasPage}
 use Rattle.exec_ring.proofs.file.File.covers.Goals as goal
 

@@ -1,28 +1,21 @@
-use Rattle.std.proofs.Common.{◌+◌, ◌-◌, ◌∙◌, true, ap, arith}
+use Rattle.std.proofs.Common.{◌+◌, ◌∙◌, ap, arith}
 use Rattle.exec_request.specs.Bytes.{filled_at, filled_of, lent_of}
-use Rattle.exec_ring.specs.Fillings.{Fills}
-use Rattle.exec_ring.specs.Files.{byte_at, bytes_from}
-use Rattle.exec_ring.proofs.Fillings.{Fills-next}
-use Rattle.exec_ring.proofs.Values.{values_from-append, length-values_from}
+use Rattle.exec_ring.{specs.{Fillings.Fills, Files.{byte_at, values_from}}, proofs.Stretches.{Fills-next, values_from-append, length-values_from}}
 use Rattle.exec_ring.proofs.file.File.read.Goals as goal
 
 pub loop-at-preserved : goal.loop-at-preserved
 loop-at-preserved c =
-    let f = c.args.self.now in
+    let value = byte_at c.args.self.now in
     let o = c.args.offset in
     let at = c.loop-at.at in
     let here = c.in_page-here.result in
+    let filled = c.fill_window-in-loop-at.ensures in
     let more : Fills c.args.request.now c.fill_window-in-loop-at.new.self _ =
-    Fills-next c.args.request.now c.loop-at.request c.fill_window-in-loop-at.new.self at (bytes_from f o at) (bytes_from f (o + at) here)
-    (length-values_from (byte_at f) o at) c.loop-at.invariant.filled
-    (record {
-      buffer = c.fill_window-in-loop-at.ensures.buffer ∙ ap (λ bytes. filled_at (filled_of c.loop-at.request + at) bytes (lent_of c.loop-at.request)) c.bytes_in_page-in-loop-at.ensures.bytes;
-      kept = c.fill_window-in-loop-at.ensures.kept;
-      place = c.fill_window-in-loop-at.ensures.place;
-      cursor = c.fill_window-in-loop-at.ensures.cursor;
-      window = c.fill_window-in-loop-at.ensures.window;
-    }) in
+    Fills-next c.args.request.now c.loop-at.request c.fill_window-in-loop-at.new.self at (values_from value o at) (values_from value (o + at) here)
+    (length-values_from value o at) c.loop-at.invariant.filled
+    (filled.buffer ∙ ap (λ bytes. filled_at (filled_of c.loop-at.request + at) bytes (lent_of c.loop-at.request)) c.bytes_in_page-in-loop-at.ensures.bytes)
+    filled.kept filled.place filled.cursor filled.window in
     record {
       within = omega (arith, c.in_page-here.ensures, c.loop-at-test.true);
-      filled = rw (values_from-append (byte_at f) o at here) more;
+      filled = rw (values_from-append value o at here) more;
     }

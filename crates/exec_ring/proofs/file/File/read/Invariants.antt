@@ -1,6 +1,5 @@
 use Rattle.std.proofs.Common.{◌-◌, ◌≤◌}
-use Rattle.exec_ring.specs.Fillings.{Fills}
-use Rattle.exec_ring.specs.Files.{bytes_from}
+use Rattle.exec_ring.specs.{Fillings.Fills, Files.bytes_from}
 use Rattle.exec_ring.proofs.file.File.read.Given as goal
 
 abbrev pub invariant-loop-at : goal.invariant-loop-at

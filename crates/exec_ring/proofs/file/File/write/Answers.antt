@@ -1,7 +1,6 @@
-use Rattle.std.proofs.{Common.{◌+◌, ◌-◌, ◌≤◌, arith}, lemmas.Grind.common_steps}
+use Rattle.std.proofs.{Common.{◌+◌, ◌≤◌, arith}, lemmas.Grind.common_steps}
 use Rattle.exec_request.specs.Bytes.{window_bytes}
-use Rattle.exec_ring.specs.Files.{byte_at}
-use Rattle.exec_ring.proofs.Values.{byte_over-next}
+use Rattle.exec_ring.{specs.Files.byte_at, proofs.Stretches.byte_over-next}
 use Rattle.exec_ring.proofs.file.File.write.Goals as goal
 
 pub loop-at-preserved : goal.loop-at-preserved

@@ -1,9 +1,6 @@
-use Rattle.std.proofs.Common.{◌≡◌, ◌/◌, true, Some, is_some, take, drop, ap, sym, arith}
-use Rattle.std.specs.Ordering.{nat_cmp}
-use Rattle.std.specs.BTreeMap.{get}
-use Rattle.std.proofs.lemmas.Bool.Decides.{nat_tests}
+use Rattle.std.{proofs.{Common.{◌≡◌, ◌/◌, true, Some, is_some, take, drop, ap, sym, arith}, lemmas.Bool.Decides.nat_tests}, specs.{Ordering.nat_cmp, BTreeMap.get}}
 use Rattle.exec_request.specs.Bytes.{window_bytes}
-use Rattle.exec_ring.proofs.Pages.{page_over}
+use Rattle.exec_ring.proofs.Stretches.{page_over}
 use Rattle.exec_ring.proofs.file.File.write_in_page.Goals as goal
 
 pub returns-in-Some-clause-bytes : goal.returns-in-Some-clause-bytes

@@ -1,7 +1,4 @@
-use Rattle.std.proofs.Common.{◌≡◌, ◌≤◌, ◌∷◌, ℕ, List, length, drop, subst, arith}
-use Rattle.std.specs.Str.Lines.{lines}
-use Rattle.std.proofs.lemmas.List.{take_rest}
-use Rattle.std.proofs.lemmas.Bool.{eqb-true}
+use Rattle.std.{proofs.{Common.{◌≡◌, ◌≤◌, ◌∷◌, ℕ, List, length, drop, subst, arith}, lemmas.{List.take_rest, Bool.eqb-true}}, specs.Str.Lines.lines}
 use Rattle.exec_text.proofs.Said.{no_more, one_more}
 use Rattle.exec_text.proofs.line.Lines.next_line.Goals as goal
 

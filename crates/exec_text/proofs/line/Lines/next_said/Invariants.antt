@@ -1,5 +1,4 @@
-use Rattle.std.proofs.Common.{◌≡◌, ◌≤◌, ◌-◌, length}
-use Rattle.std.specs.Str.Lines.{lines}
+use Rattle.std.{proofs.Common.{◌≡◌, ◌≤◌, ◌-◌, length}, specs.Str.Lines.lines}
 use Rattle.exec_text.specs.Reading.{said_before}
 use Rattle.exec_text.proofs.line.Lines.next_said.Given as goal
 

@@ -1,5 +1,4 @@
-use Rattle.exec_time.specs.Sleepers.{opened, closed}
-use Rattle.exec_time.proofs.Endings.{ends_room}
+use Rattle.exec_time.{specs.Sleepers.{opened, closed}, proofs.Endings.ends_room}
 use Rattle.exec_time.proofs.timers.Timers.clear.Goals as goal
 
 pub open-init : goal.open-init

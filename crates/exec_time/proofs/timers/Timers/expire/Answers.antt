@@ -1,6 +1,5 @@
 use Rattle.std.proofs.Common.{sym, ◌∙◌, refl}
-use Rattle.exec_time.specs.Sleepers.{begun, fired}
-use Rattle.exec_time.proofs.Endings.{ends_room, left_same, left_all, first_due}
+use Rattle.exec_time.{specs.Sleepers.{begun, fired}, proofs.Endings.{ends_room, left_same, left_all, first_due}}
 use Rattle.exec_time.proofs.timers.Timers.expire.Goals as goal
 
 pub due-init : goal.due-init

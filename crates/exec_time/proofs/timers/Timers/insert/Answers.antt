@@ -1,7 +1,5 @@
-use Rattle.std.proofs.Common.{arith, ◌≡◌}
-use Rattle.std.proofs.lemmas.Bool.{true≢false}
-use Rattle.exec_time.specs.declared.timers.Observer.TheVariants.{Local}
-use Rattle.exec_time.proofs.Index.{refused_free, indexed_still, indexed_put}
+use Rattle.std.proofs.{Common.{arith, ◌≡◌}, lemmas.Bool.true≢false}
+use Rattle.exec_time.{specs.declared.timers.Observer.TheVariants.Local, proofs.Index.{refused_free, indexed_still, indexed_put}}
 use Rattle.exec_time.proofs.timers.Timers.insert.Goals as goal
 
 pub invariant_of-self-in_default-insert-2 : goal.invariant_of-self-in_default-insert-2

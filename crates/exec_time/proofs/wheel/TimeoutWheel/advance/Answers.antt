@@ -1,6 +1,5 @@
 use Rattle.std.proofs.Common.{◌≡◌, ◌∙◌, ap, Some, None, ℕ}
-use Rattle.exec_time.specs.{Wheel.Wheel, WheelView.wheel_of, Turning.{Turn, advanced, turned}}
-use Rattle.exec_time.proofs.Turns.{advanced_stays, advanced_moves, turned_early, turned_due, turned_idle}
+use Rattle.exec_time.{specs.{Wheel.Wheel, WheelView.wheel_of, Turning.{Turn, advanced, turned}}, proofs.Turns.{advanced_stays, advanced_moves, turned_early, turned_due, turned_idle}}
 use Rattle.exec_time.proofs.wheel.TimeoutWheel.advance.Goals as goal
 
 pub returns-then-tick-self-clause-wheel : goal.returns-then-tick-self-clause-wheel

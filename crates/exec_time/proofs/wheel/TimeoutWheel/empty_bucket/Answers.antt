@@ -1,7 +1,5 @@
-use Rattle.std.proofs.Common.{◌≡◌, [], arith}
-use Rattle.std.proofs.lemmas.Grind.{common_steps}
-use Rattle.exec_time.specs.{Entries.bucket_in, WheelView.{wheel_of, room_of}}
-use Rattle.exec_time.proofs.{Buckets.length_bucket_in_discard, Views.{emptied_is, emptied_same}}
+use Rattle.std.proofs.{Common.{◌≡◌, [], arith}, lemmas.Grind.common_steps}
+use Rattle.exec_time.{specs.{Entries.bucket_in, WheelView.{wheel_of, room_of}}, proofs.{Buckets.length_bucket_in_discard, Views.{emptied_is, emptied_same}}}
 use Rattle.exec_time.proofs.wheel.TimeoutWheel.empty_bucket.Goals as goal
 
 pub invariant_of-self-clause-has_room : goal.invariant_of-self-clause-has_room

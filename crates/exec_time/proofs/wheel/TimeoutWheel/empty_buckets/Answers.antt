@@ -1,6 +1,5 @@
 use Rattle.std.proofs.Common.{arith, ◌≡◌, ◌+◌, ◌%◌, ap}
-use Rattle.exec_time.specs.{Wheel.Wheel, WheelView.wheel_of}
-use Rattle.exec_time.proofs.Views.{emptied_step}
+use Rattle.exec_time.{specs.{Wheel.Wheel, WheelView.wheel_of}, proofs.Views.emptied_step}
 use Rattle.exec_time.proofs.wheel.TimeoutWheel.empty_buckets.Goals as goal
 
 pub loop-step-preserved : goal.loop-step-preserved

@@ -1,5 +1,4 @@
-use Rattle.std.proofs.Common.{◌≡◌, ◌≤◌, map}
-use Rattle.std.specs.List.{range_with_len}
+use Rattle.std.{proofs.Common.{◌≡◌, ◌≤◌, map}, specs.List.range_with_len}
 use Rattle.exec_time.specs.{Wheel.slot_of, Turning.emptied, WheelView.{wheel_of, room_of}}
 use Rattle.exec_time.proofs.wheel.TimeoutWheel.empty_buckets.Given as goal
 

@@ -1,7 +1,5 @@
-use Rattle.std.proofs.Common.{arith, ◌≡◌, ◌<◌, ◌≤◌, length, Some, refl}
-use Rattle.std.proofs.lemmas.Grind.{common_steps}
-use Rattle.exec_time.specs.WheelView.{wheel_of}
-use Rattle.exec_time.proofs.Ranges.{active_few, active_is_among, found_active}
+use Rattle.std.proofs.{Common.{arith, ◌≡◌, ◌<◌, ◌≤◌, length, Some, refl}, lemmas.Grind.common_steps}
+use Rattle.exec_time.{specs.WheelView.wheel_of, proofs.Ranges.{active_few, active_is_among, found_active}}
 use Rattle.exec_time.proofs.wheel.TimeoutWheel.is_settled.Goals as goal
 
 pub returns-in-None : goal.returns-in-None

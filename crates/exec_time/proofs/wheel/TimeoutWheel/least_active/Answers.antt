@@ -1,5 +1,4 @@
-use Rattle.exec_time.specs.{Wheel.least_active, WheelView.wheel_of}
-use Rattle.exec_time.proofs.Ranges.{least_found, found_active}
+use Rattle.exec_time.{specs.{Wheel.least_active, WheelView.wheel_of}, proofs.Ranges.{least_found, found_active}}
 use Rattle.exec_time.proofs.wheel.TimeoutWheel.least_active.Goals as goal
 
 pub returns-clause-least : goal.returns-clause-least

@@ -1,6 +1,5 @@
 use Rattle.std.proofs.Common.{arith}
-use Rattle.exec_time.specs.WheelView.{wheel_of}
-use Rattle.exec_time.proofs.{Ranges.active_nowhere, Sizes.{some_slots, some_tick}, Turns.fresh_is}
+use Rattle.exec_time.{specs.WheelView.wheel_of, proofs.{Ranges.active_nowhere, Sizes.{some_slots, some_tick}, Turns.fresh_is}}
 use Rattle.exec_time.proofs.wheel.TimeoutWheel.new.Goals as goal
 
 pub invariant_of-result-clause-turns : goal.invariant_of-result-clause-turns

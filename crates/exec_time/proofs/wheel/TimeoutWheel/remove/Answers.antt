@@ -1,5 +1,4 @@
-use Rattle.exec_time.specs.WheelView.{wheel_of}
-use Rattle.exec_time.proofs.{Views.removed_is}
+use Rattle.exec_time.{specs.WheelView.wheel_of, proofs.Views.removed_is}
 use Rattle.exec_time.proofs.wheel.TimeoutWheel.remove.Goals as goal
 
 pub returns-clause-removed : goal.returns-clause-removed

@@ -1,5 +1,4 @@
-use Rattle.exec_time.specs.{WheelView.wheel_of}
-use Rattle.exec_time.proofs.{Views.scheduled_is}
+use Rattle.exec_time.{specs.WheelView.wheel_of, proofs.Views.scheduled_is}
 use Rattle.exec_time.proofs.wheel.TimeoutWheel.schedule.Goals as goal
 
 pub returns-clause-scheduled : goal.returns-clause-scheduled

@@ -1,6 +1,5 @@
 use Rattle.std.proofs.Common.{arith, ◌≡◌, ◌+◌, ◌-◌, ◌==◌, ap, ◌∙◌, map, length, ℕ, List, length-append, nat_lt, if◌then◌else◌, ◌||◌, Some, None}
-use Rattle.exec_time.specs.{Wheel.{Wheel, slot_of}, WheelView.wheel_of, Turning.{slots_passed, emptied, ids_in, is_full_turn}}
-use Rattle.exec_time.proofs.Ranges.{full_turn}
+use Rattle.exec_time.{specs.{Wheel.{Wheel, slot_of}, WheelView.wheel_of, Turning.{slots_passed, emptied, ids_in, is_full_turn}}, proofs.Ranges.full_turn}
 use Rattle.exec_time.proofs.wheel.TimeoutWheel.turn_out.Goals as goal
 
 pub returns-clause-wheel : goal.returns-clause-wheel

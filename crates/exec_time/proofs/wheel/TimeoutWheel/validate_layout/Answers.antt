@@ -1,5 +1,4 @@
-use Rattle.std.proofs.Common.{arith, sym}
-use Rattle.std.proofs.lemmas.Grind.{common_steps}
+use Rattle.std.proofs.{Common.{arith, sym}, lemmas.Grind.common_steps}
 use Rattle.exec_time.proofs.{Sizes.{refused, too_many, enough}, wheel.TimeoutWheel.validate_layout.Goals.{then-is_out_of_range-via-then-is_out_of_range, then-is_out_of_range-via-else-is_out_of_range+then-is_out_of_range-2}}
 use Rattle.exec_time.proofs.wheel.TimeoutWheel.validate_layout.Goals as goal
 

@@ -1,8 +1,7 @@
 use Rattle.std.proofs.Common.{refl}
-use Rattle.exec_waiters.proofs.Changes.{kept_changed, sound_at}
+use Rattle.exec_waiters.proofs.Changes.{kept_changed}
 use Rattle.exec_waiters.proofs.waiters.Waiters.set_state.Goals as goal
 
 pub invariant_of-self : goal.invariant_of-self
 invariant_of-self g c =
-    let at = c.waiter_mut-waiter.ensures.value in
-    kept_changed _ _ _ _ _ _ _ at refl (sound_at _ _ _ _ _ at c.self.invariant) (λ held. held) c.self.invariant
+    kept_changed _ _ c.waiter_mut-waiter.result.now _ _ _ _ c.waiter_mut-waiter.ensures.value refl (λ sound. sound) (λ held. held) c.self.invariant

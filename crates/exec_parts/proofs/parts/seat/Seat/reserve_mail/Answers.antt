@@ -7,13 +7,7 @@ made_mail : (A E : Type 0) (seat seat' : Seat) (n : ℕ) (batch batch' : Reserve
     → seat' ≡ record seat { mailbox = seat'.mailbox } → seat'.mailbox.inbox ≡ record seat.mailbox.inbox { places = max seat.mailbox.inbox.places n } → seat'.mailbox.waker ≡ seat.mailbox.waker
     → OnOk r (batch' ≡ record batch { places = max batch.places n }) → OnErr r (batch' ≡ batch) → MakesMail seat seat' batch batch'
 made_mail A E seat seat' n batch batch' r kept inbox waker ok err =
-    record {
-      places = max seat.mailbox.inbox.places n;
-      same = grind arith;
-      more = omega arith;
-      values = grind arith;
-      batch_more = grind arith;
-    }
+    record { places = max seat.mailbox.inbox.places n; same = grind arith; more = omega arith; values = grind arith; batch_more = grind arith }
 
 pub returns-clause-kept : goal.returns-clause-kept
 returns-clause-kept c =

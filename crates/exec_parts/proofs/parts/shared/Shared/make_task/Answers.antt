@@ -7,12 +7,7 @@ use Rattle.exec_parts.proofs.parts.shared.Shared.make_task.Goals as goal
 new_task : {B : Type 0} (x : TaskSlot B) (n : TaskNo) (id owner : ℕ) (body : B) → id ≡ owner → x.cell ≡ record { number = n; owner = id; phase = Phase.Queued body; cancelled = false } → numbers_held x.held.items ≡ []
     → x ≡ record { cell = x.cell; body = None; told = Some Start; held = x.held; waiting = Waiting.Nothing; output = shot.Open; fresh = false; cleared = false; home = None; poller = 0 } → IsNewTask n owner body x
 new_task x n id owner body is cell held slot =
-    record {
-      cell = grind arith;
-      held = held;
-      output = ap (λ y. y.output) slot;
-      rest = grind arith;
-    }
+    record { cell = grind arith; held = held; output = ap (λ y. y.output) slot; rest = grind arith }
 
 pub returns-clause-made : goal.returns-clause-made
 returns-clause-made g c =

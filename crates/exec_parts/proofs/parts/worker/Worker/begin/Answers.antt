@@ -12,8 +12,8 @@ returns-clause-begins c =
     let p = c.next_power_of_two-size.ensures in
     let size = power_is 15 k.ring _ p.power p.lower_bound p.upper_bound (omega (arith, c.requires.ranges.ring)) in
     record {
-      parts = rw (c.in_ok-rooms.ensures.loot, c.in_ok-rooms.ensures.batch, c.new.ensures, c.new-2.ensures, c.spins_of.ensures) refl;
-      names = subst (λ n. HasNoNames n c.in_ok-rooms.rooms.names) size c.in_ok-rooms.ensures.names;
+      parts = rw (c.in_ok-with_places.ensures, c.in_ok-with_places-2.ensures, c.new-2.ensures, c.new-3.ensures, c.spins_of.ensures) refl;
+      names = subst (λ n. HasNoNames n c.in_ok-new.field-0) size c.in_ok-new.ensures.names;
       home = home.worker;
       opened = home.open;
       driver = subst (λ n. IsFresh (seen c.in-Ok.home.driver) n (horizon k) k.tick now) size home.fresh;
@@ -21,5 +21,5 @@ returns-clause-begins c =
       asleep = home.asleep;
       untold = home.untold;
       room = home.room;
-      letters = (c.new-3.ensures.requests, c.new-3.ensures.timer);
+      letters = (c.new-4.ensures.requests, c.new-4.ensures.timer);
     }

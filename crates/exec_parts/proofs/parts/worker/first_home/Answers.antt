@@ -1,7 +1,7 @@
 use Rattle.std.proofs.Common.{refl, ap, ◌∙◌}
 use Rattle.exec_time.specs.Layouts.{slots_of}
 use Rattle.exec_parts.proofs.LeafPowers.{slots_of_wheel}
-use Rattle.exec_parts.proofs.parts.beginning.first_home.Goals as goal
+use Rattle.exec_parts.proofs.parts.worker.first_home.Goals as goal
 
 pub new-requires-2-clause-layout : goal.new-requires-2-clause-layout
 new-requires-2-clause-layout c =
